@@ -1,0 +1,3 @@
+pub mod FirstRecord
+pub mod MapsOfLayers
+pub mod TakenOut
