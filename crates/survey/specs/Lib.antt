@@ -1,3 +1,5 @@
+pub mod Refusals
+pub mod Words
 pub mod Grades
 pub mod Readings
 pub mod Networks
@@ -6,3 +8,5 @@ pub mod Bounds
 pub mod Maps
 pub mod Layers
 pub mod Without
+pub mod Pairings
+pub mod Carrying
