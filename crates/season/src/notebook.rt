@@ -2,12 +2,15 @@
 use std::alloc::AllocError;
 use std::alloc::Global;
 use std::alloc::Refused;
+use std::error::Error;
 use std::fmt;
+use std::str::FromStr;
 use survey::leg_list::Leg;
 use survey::leg_list::LegList;
 use survey::reading::Reading;
 use survey::reading::ReadingLabel;
 use survey::refusal::Refusal;
+use survey::refusal::RefusalDebug;
 use survey::refusal::RefusalDisplay;
 use survey::word::kind_of;
 
@@ -18,7 +21,7 @@ pub struct Notebook {
 }
 
 // What is wrong with a notebook, with the line that it stands on.
-#[derive(Drop)]
+#[derive(Debug, Drop)]
 pub enum Mistake {
     // neither a station nor a leg
     NotALine { line: usize },
@@ -55,7 +58,12 @@ pub impl fmt::Display for Mistake as MistakeDisplay {
     }
 }
 
-fn number<F: std::str::FromStr>(line: usize, word: &str) -> Result<F, Mistake> {
+pub impl Error for Mistake as MistakeError {}
+
+fn number<F: FromStr>(line: usize, word: &str) -> Result<F, Mistake>
+where
+    <F as FromStr>::Err: Drop,
+{
     match word.parse::<F>() {
         Ok(n) => Ok(n),
         Err(_) => Err(Mistake::NotANumber { line }),

@@ -1,9 +1,11 @@
 -- Grades: what a grade says, and which numbers make one.
 use mathlib.Core.Bool.{Bool, true, false, cond, _&&_}
-use mathlib.Core.List.{List, [], _∷_}
+use mathlib.Core.List.{List, [], _∷_, _++_}
 use Prim.Native.Nat.{ℕ, min, max}
+use lib.Chars.{codes}
 use lib.Dec.{leb}
 use lib.IntN.{ℤ, pos}
+use Rattle.std.specs.Written.{decimal}
 use Rattle.std.specs.declared.result.Result.{Result}
 use Rattle.std.specs.declared.result.Result.the-variants.{Ok, Err}
 use Rattle.survey.specs.declared.grade.Grade.{Grade}
@@ -21,3 +23,7 @@ grade-sense g = pos (as-grade (g .value)) ∷ []
 -- a number outside 1 to 255 makes no grade
 abbrev pub grade-made : ℕ → Result Grade Refusal
 grade-made n = cond (leb 1 n && leb n 255) (Ok (record { value = n })) (Err OutOfRange)
+
+-- a grade as it is printed
+abbrev pub grade-text : Grade → List ℕ
+grade-text g = codes "grade " ++ decimal (g .value)

@@ -1,11 +1,13 @@
 -- Readings of tape, compass and clinometer: what a reading says, how it is turned, and which numbers make one.
 use mathlib.Core.Bool.{Bool, true, false, cond, _&&_}
-use mathlib.Core.List.{List, [], _∷_}
+use mathlib.Core.List.{List, [], _∷_, _++_}
 use Prim.Native.Nat.{ℕ, _+_, _-_, min}
+use lib.Chars.{codes}
 use lib.Dec.{leb}
 use lib.IntN.{ℤ, pos, negsuc, negℤ}
 use lib.Signed.{leZ}
 use Rattle.std.specs.Numbers.{minZ, maxZ}
+use Rattle.std.specs.Written.{decimal, signed}
 use Rattle.std.specs.declared.result.Result.{Result}
 use Rattle.std.specs.declared.result.Result.the-variants.{Ok, Err}
 use Rattle.survey.specs.declared.reading.Reading.{Reading}
@@ -48,3 +50,8 @@ reading-made l b g =
     (leb l 1000000 && (leb b 3599 && (leZ (negsuc 899) g && leZ g (pos 900))))
     (Ok (record { length = l; bearing = b; gradient = g }))
     (Err OutOfRange)
+
+-- a reading as it is printed, in centimetres and tenths of a degree
+abbrev pub reading-text : Reading → List ℕ
+reading-text r =
+    decimal (r .length) ++ (codes " cm, bearing " ++ (decimal (r .bearing) ++ (codes ", gradient " ++ signed (r .gradient))))

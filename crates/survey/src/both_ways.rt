@@ -5,7 +5,7 @@ use crate::label::Label;
 use crate::network::Network;
 
 // The leg from one station to another is the one of the network below; if there is none, it is the turned leg back.
-#[derive(Clone, Copy)]
+#[derive(Drop)]
 pub struct BothWays<N> {
     below: N,
 }

@@ -1,8 +1,10 @@
 // Labels that grade a leg.
 ghost use mathlib.Core.Path.{_≡_};
-ghost use Rattle.survey.specs.Grades.{grade-sense, grade-made};
+ghost use Rattle.std.specs.declared.option.Option.the-variants.{Some};
+ghost use Rattle.survey.specs.Grades.{grade-sense, grade-made, grade-text};
 use crate::label::Label;
 use crate::refusal::Refusal;
+use std::fmt;
 
 // A grade from 1 to 255. The type is plain, since grades lie in lent memory: a value of 0 counts as 1.
 #[derive(Clone, Copy, PartialEq, Eq, Debug)]
@@ -37,5 +39,14 @@ pub impl Label for Grade as GradeLabel {
 
     fn turn(&self) -> Grade {
         *self
+    }
+}
+
+pub impl fmt::Display for Grade as GradeDisplay {
+    ghost shown = { λ g. Some (grade-text g) };
+
+    fn fmt<W: fmt::Write>(&self, f: &mut fmt::Formatter<W>) -> fmt::Result {
+        let value = self.value;
+        write!(f, "grade {value}")
     }
 }

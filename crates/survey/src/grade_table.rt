@@ -9,7 +9,7 @@ use crate::kinds::kind_at;
 use crate::network::Network;
 
 // A network over lent kinds, one for each station, and lent bytes: the grade of the leg from u to v stands at 64u+v, 0 for no leg.
-#[derive(Clone, Copy)]
+#[derive(Drop)]
 pub struct GradeTable<'a> {
     kinds: &'a [u8],
     bytes: &'a [u8],

@@ -16,7 +16,7 @@ pub struct Leg<L> {
 }
 
 // A network over lent kinds, one for each station, and lent records. The first record for a pair of stations counts.
-#[derive(Clone, Copy)]
+#[derive(Drop)]
 pub struct LegList<'a, L> {
     kinds: &'a [u8],
     legs: &'a [Leg<L>],

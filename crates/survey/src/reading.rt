@@ -1,8 +1,10 @@
 // Labels read off tape, compass and clinometer.
 ghost use mathlib.Core.Path.{_≡_};
-ghost use Rattle.survey.specs.Readings.{reading-sense, reading-turned, reading-made};
+ghost use Rattle.std.specs.declared.option.Option.the-variants.{Some};
+ghost use Rattle.survey.specs.Readings.{reading-sense, reading-turned, reading-made, reading-text};
 use crate::label::Label;
 use crate::refusal::Refusal;
+use std::fmt;
 
 // A reading. The type is plain, since readings lie in lent memory: a number beyond its range counts as the nearer end of it.
 #[derive(Clone, Copy, PartialEq, Eq, Debug)]
@@ -71,5 +73,16 @@ pub impl Label for Reading as ReadingLabel {
             bearing,
             gradient: -self.gradient.clamp(-Self::STEEPEST, Self::STEEPEST),
         }
+    }
+}
+
+pub impl fmt::Display for Reading as ReadingDisplay {
+    ghost shown = { λ r. Some (reading-text r) };
+
+    fn fmt<W: fmt::Write>(&self, f: &mut fmt::Formatter<W>) -> fmt::Result {
+        let length = self.length;
+        let bearing = self.bearing;
+        let gradient = self.gradient;
+        write!(f, "{length} cm, bearing {bearing}, gradient {gradient}")
     }
 }

@@ -1,6 +1,7 @@
 ghost use mathlib.Core.Path.{_≡_};
 ghost use Rattle.std.specs.declared.option.Option.the-variants.{Some};
 ghost use Rattle.survey.specs.Refusals.{number-of, sentence};
+use std::error::Error;
 use std::fmt;
 
 // Why a call of the library was refused. A refused call has written nothing.
@@ -64,3 +65,5 @@ pub impl fmt::Display for Refusal as RefusalDisplay {
         }
     }
 }
+
+pub impl Error for Refusal as RefusalError {}

@@ -5,7 +5,7 @@ use crate::label::Label;
 use crate::network::Network;
 
 // The leg from one station to another is the turned leg back, of the network below.
-#[derive(Clone, Copy)]
+#[derive(Drop)]
 pub struct Turned<N> {
     below: N,
 }

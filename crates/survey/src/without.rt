@@ -5,7 +5,7 @@ ghost use Rattle.survey.specs.Without.{taken-out, taken-below, old-station, wi
 use crate::network::Network;
 
 // A bit of the number takes out the station of that number, with its legs. The others close up in their old order.
-#[derive(Clone, Copy)]
+#[derive(Drop)]
 pub struct Without<N> {
     below: N,
     mask: u64,
