@@ -2,7 +2,7 @@ ghost use mathlib.Core.Path.{_≡_};
 ghost use Prim.Native.Nat.{ℕ, _<_, _≤_};
 ghost use lib.ListN.{length, getD};
 
-mod calls;
+pub mod calls;
 
 // The most stations that a pairing holds.
 pub const MOST: usize = 64;
