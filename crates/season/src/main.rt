@@ -1,5 +1,6 @@
 // Two parties surveyed one series of a cave and numbered its stations differently. This program reads both notebooks,
 // prints the networks, and shows how the stations pair.
+mod matching;
 mod notebook;
 mod report;
 
@@ -8,6 +9,8 @@ use notebook::Mistake;
 use notebook::MistakeDisplay;
 use notebook::MistakeFromAllocError;
 use notebook::Notebook;
+use search::answer::Answer;
+use search::searching::search;
 use std::error::AnyError;
 use std::io;
 use survey::both_ways::BothWays;
@@ -67,7 +70,8 @@ fn run(rt: &LibcRuntime) -> Result<(), AnyError> {
     let whole = BothWays::new(spring.network());
     report::network(rt, "The spring party, both ways", &whole)?;
     report::network(rt, "Both ways without the sump", &Without::new(whole, SUMP))?;
-    pairings(rt, &spring, &autumn)
+    pairings(rt, &spring, &autumn)?;
+    matched(rt, &spring, &autumn)
 }
 
 // Prints how the two numberings pair, and whether the pairing is a map: of the legs as each party read them it is
@@ -88,6 +92,29 @@ fn pairings(rt: &LibcRuntime, spring: &Notebook, autumn: &Notebook) -> Result<()
     );
     report::verdict(rt, "The legs as read", as_read)?;
     report::verdict(rt, "The legs both ways", both_ways)?;
+    Ok(())
+}
+
+// More trials than any network of this size needs.
+const ALLOWANCE: u32 = 1_000;
+
+// Searches for a map between the two networks both ways, and prints it with the trials that it took.
+fn matched(rt: &LibcRuntime, spring: &Notebook, autumn: &Notebook) -> Result<(), AnyError> {
+    let mut met = Vec::new(rt.alloc());
+    let form = matching::coded(&mut met, &BothWays::new(spring.network()))?;
+    let network = matching::coded(&mut met, &BothWays::new(autumn.network()))?;
+    let mut place = Pairing::empty();
+    match search(&form, &network, ALLOWANCE, &mut place) {
+        Answer::Map { trials } => {
+            println!(rt, "Searched for: found with {trials} trials")?;
+            report::pairing(rt, "The map from spring to autumn", &place)?;
+        }
+        Answer::NoMap { trials } => println!(
+            rt,
+            "Searched for: there is none, as {trials} trials show"
+        )?,
+        Answer::Spent => println!(rt, "Searched for: not found with {ALLOWANCE} trials")?,
+    }
     Ok(())
 }
 

@@ -1,0 +1,7 @@
+pub mod Senses
+pub mod Legends
+pub mod Lent
+pub mod Calls
+pub mod Readings
+pub mod Law
+pub mod Worked
