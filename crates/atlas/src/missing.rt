@@ -13,9 +13,14 @@ use survey::network::Network;
 // Adds the label of a leg to the missing ones, where neither they nor the legend have its sense, and says whether it
 // found a place.
 fn note<L: Label>(leg: Option<L>, legend: &Legend<'_, L>, missing: &mut Legend<'_, L>) -> bool
-    ensures fits { λ r. ⌜ r ≡ leb (length (noted (L·Label .sense) (all-labels (now (legend .entry)) (now (missing .entry))) leg)) (most-labels (now (legend .entry)) (now (missing .entry))) ⌝ }
-    ensures labels { λ r. ⌜ (r ≡ true → all-labels (now (legend .entry)) (now (missing .exit)) ≡ noted (L·Label .sense) (all-labels (now (legend .entry)) (now (missing .entry))) leg) ⌝ }
-    ensures most { λ _. ⌜ most-labels (now (legend .entry)) (now (missing .exit)) ≡ most-labels (now (legend .entry)) (now (missing .entry)) ⌝ }
+    ensures fits { λ r. ⌜ r
+        ≡ leb (length (noted (L·Label .sense) (all-labels (now (legend .entry)) (now (missing .entry))) leg))
+        (most-labels (now (legend .entry)) (now (missing .entry))) ⌝ }
+    ensures labels { λ r. ⌜ (r ≡ true →
+        all-labels (now (legend .entry)) (now (missing .exit))
+        ≡ noted (L·Label .sense) (all-labels (now (legend .entry)) (now (missing .entry))) leg) ⌝ }
+    ensures most { λ _. ⌜ most-labels (now (legend .entry)) (now (missing .exit))
+        ≡ most-labels (now (legend .entry)) (now (missing .entry)) ⌝ }
 {
     let Some(label) = leg else {
         return true;
@@ -34,9 +39,15 @@ fn note_row<N: Network>(
     legend: &Legend<'_, N::Label>,
     missing: &mut Legend<'_, N::Label>,
 ) -> bool
-    ensures fits { λ r. ⌜ r ≡ leb (length (noted-row (Label·Label .sense) (N·Network .means (now (net .entry)) .leg u) (counting 0 count) (all-labels (now (legend .entry)) (now (missing .entry))))) (most-labels (now (legend .entry)) (now (missing .entry))) ⌝ }
-    ensures labels { λ r. ⌜ (r ≡ true → all-labels (now (legend .entry)) (now (missing .exit)) ≡ noted-row (Label·Label .sense) (N·Network .means (now (net .entry)) .leg u) (counting 0 count) (all-labels (now (legend .entry)) (now (missing .entry)))) ⌝ }
-    ensures most { λ _. ⌜ most-labels (now (legend .entry)) (now (missing .exit)) ≡ most-labels (now (legend .entry)) (now (missing .entry)) ⌝ }
+    ensures fits { λ r. ⌜ r
+        ≡ leb (length (noted-row (Label·Label .sense) (N·Network .means (now (net .entry)) .leg u) (counting 0 count)
+        (all-labels (now (legend .entry)) (now (missing .entry))))) (most-labels (now (legend .entry)) (now (missing .entry))) ⌝ }
+    ensures labels { λ r. ⌜ (r ≡ true →
+        all-labels (now (legend .entry)) (now (missing .exit))
+        ≡ noted-row (Label·Label .sense) (N·Network .means (now (net .entry)) .leg u) (counting 0 count)
+        (all-labels (now (legend .entry)) (now (missing .entry)))) ⌝ }
+    ensures most { λ _. ⌜ most-labels (now (legend .entry)) (now (missing .exit))
+        ≡ most-labels (now (legend .entry)) (now (missing .entry)) ⌝ }
 {
     for v in 0..count {
         if !note(net.leg(u, v), legend, missing) {
@@ -54,9 +65,15 @@ pub(crate) fn note_all<N: Network>(
     legend: &Legend<'_, N::Label>,
     missing: &mut Legend<'_, N::Label>,
 ) -> bool
-    ensures fits { λ r. ⌜ r ≡ leb (length (noted-rows (Label·Label .sense) (N·Network .means (now (net .entry)) .leg) (counting 0 count) (counting 0 count) (all-labels (now (legend .entry)) (now (missing .entry))))) (most-labels (now (legend .entry)) (now (missing .entry))) ⌝ }
-    ensures labels { λ r. ⌜ (r ≡ true → all-labels (now (legend .entry)) (now (missing .exit)) ≡ noted-rows (Label·Label .sense) (N·Network .means (now (net .entry)) .leg) (counting 0 count) (counting 0 count) (all-labels (now (legend .entry)) (now (missing .entry)))) ⌝ }
-    ensures most { λ _. ⌜ most-labels (now (legend .entry)) (now (missing .exit)) ≡ most-labels (now (legend .entry)) (now (missing .entry)) ⌝ }
+    ensures fits { λ r. ⌜ r
+        ≡ leb (length (noted-rows (Label·Label .sense) (N·Network .means (now (net .entry)) .leg) (counting 0 count) (counting 0 count)
+        (all-labels (now (legend .entry)) (now (missing .entry))))) (most-labels (now (legend .entry)) (now (missing .entry))) ⌝ }
+    ensures labels { λ r. ⌜ (r ≡ true →
+        all-labels (now (legend .entry)) (now (missing .exit))
+        ≡ noted-rows (Label·Label .sense) (N·Network .means (now (net .entry)) .leg) (counting 0 count) (counting 0 count)
+        (all-labels (now (legend .entry)) (now (missing .entry)))) ⌝ }
+    ensures most { λ _. ⌜ most-labels (now (legend .entry)) (now (missing .exit))
+        ≡ most-labels (now (legend .entry)) (now (missing .entry)) ⌝ }
 {
     for u in 0..count {
         if !note_row(net, u, count, legend, missing) {

@@ -1,11 +1,8 @@
 // Whether a pairing is a map between two networks.
 ghost use mathlib.Core.Path.{_≡_};
-ghost use mathlib.Core.Bool.{true};
-ghost use Prim.Native.Nat.{ℕ, _<_};
 ghost use Rattle.std.specs.Orderings.{Decides};
 ghost use Rattle.std.specs.Options.{mapped};
-ghost use Rattle.survey.specs.Carrying.{Carries, Goes-back, Maps-back, Maps-compose};
-ghost use Rattle.survey.specs.Pairings.{size-of, image-of};
+ghost use Rattle.survey.specs.Carrying.{Keeps-kinds, Keeps-legs-from, Keeps-legs, Carries, Goes-back, Maps-back, Maps-compose};
 use crate::label::Label;
 use crate::network::Network;
 use crate::pairing::Pairing;
@@ -24,7 +21,9 @@ fn alike<L: Label>(a: Option<L>, b: Option<L>) -> bool
 impl Pairing {
     // Whether the kinds of the first network's stations are those of their images.
     fn keeps_kinds<G: Network, H: Network<Label = G::Label>>(&self, g: &G, h: &H) -> bool
-        ensures { λ r. ⌜ Decides r ((u : ℕ) → u < size-of (now (self .entry)) → H·Network .means (now (h .entry)) .kind (image-of (now (self .entry)) u) ≡ G·Network .means (now (g .entry)) .kind u) ⌝ }
+        ensures { λ r. ⌜ Decides r
+            (Keeps-kinds (now (self .entry)) (G·Network .means (now (g .entry)))
+            (H·Network .means (now (h .entry)))) ⌝ }
     {
         for (u, image) in self.images().iter().enumerate() {
             if h.kind(*image as u16) != g.kind(u as u16) {
@@ -42,7 +41,9 @@ impl Pairing {
         u: u16,
         to: u16,
     ) -> bool
-        ensures { λ r. ⌜ Decides r ((v : ℕ) → v < size-of (now (self .entry)) → mapped (Label·Label .sense) (H·Network .means (now (h .entry)) .leg to (image-of (now (self .entry)) v)) ≡ mapped (Label·Label .sense) (G·Network .means (now (g .entry)) .leg u v)) ⌝ }
+        ensures { λ r. ⌜ Decides r
+            (Keeps-legs-from (Label·Label .sense) (now (self .entry)) (G·Network .means (now (g .entry)))
+            (H·Network .means (now (h .entry))) u to) ⌝ }
     {
         for (v, image) in self.images().iter().enumerate() {
             if !alike(h.leg(to, *image as u16), g.leg(u, v as u16)) {
@@ -54,7 +55,9 @@ impl Pairing {
 
     // Whether the legs between any two stations are those between their images.
     fn keeps_legs<G: Network, H: Network<Label = G::Label>>(&self, g: &G, h: &H) -> bool
-        ensures { λ r. ⌜ Decides r ((u : ℕ) → u < size-of (now (self .entry)) → (v : ℕ) → v < size-of (now (self .entry)) → mapped (Label·Label .sense) (H·Network .means (now (h .entry)) .leg (image-of (now (self .entry)) u) (image-of (now (self .entry)) v)) ≡ mapped (Label·Label .sense) (G·Network .means (now (g .entry)) .leg u v)) ⌝ }
+        ensures { λ r. ⌜ Decides r
+            (Keeps-legs (Label·Label .sense) (now (self .entry)) (G·Network .means (now (g .entry)))
+            (H·Network .means (now (h .entry)))) ⌝ }
     {
         for (u, image) in self.images().iter().enumerate() {
             if !self.keeps_legs_from(g, h, u as u16, *image as u16) {
@@ -67,10 +70,15 @@ impl Pairing {
     // Whether this pairing carries the first network onto the second: it has their stations, and keeps every kind
     // and every leg by its sense. Its reverse then carries the second onto the first, and maps compose.
     pub fn carries<G: Network, H: Network<Label = G::Label>>(&self, g: &G, h: &H) -> bool
-        ensures decides { λ r. ⌜ Decides r (Carries (Label·Label .sense) (now (self .entry)) (G·Network .means (now (g .entry))) (H·Network .means (now (h .entry)))) ⌝ }
-        ensures reversed { λ _. ⌜ Goes-back (Label·Label .sense) (now (self .entry)) (G·Network .means (now (g .entry))) (H·Network .means (now (h .entry))) ⌝ }
-        ensures back { λ _. ⌜ Maps-back (Label·Label .sense) (G·Network .means (now (g .entry))) (H·Network .means (now (h .entry))) ⌝ }
-        ensures compose { λ _. ⌜ Maps-compose (Label·Label .sense) (G·Network .means (now (g .entry))) (H·Network .means (now (h .entry))) ⌝ }
+        ensures decides { λ r. ⌜ Decides r
+            (Carries (Label·Label .sense) (now (self .entry)) (G·Network .means (now (g .entry)))
+            (H·Network .means (now (h .entry)))) ⌝ }
+        ensures reversed { λ _. ⌜ Goes-back (Label·Label .sense) (now (self .entry))
+            (G·Network .means (now (g .entry))) (H·Network .means (now (h .entry))) ⌝ }
+        ensures back { λ _. ⌜ Maps-back (Label·Label .sense) (G·Network .means (now (g .entry)))
+            (H·Network .means (now (h .entry))) ⌝ }
+        ensures compose { λ _. ⌜ Maps-compose (Label·Label .sense) (G·Network .means (now (g .entry)))
+            (H·Network .means (now (h .entry))) ⌝ }
     {
         let count = self.count() as u16;
         if g.stations() != count || h.stations() != count {

@@ -22,7 +22,10 @@ pub fn word(kind: u8) -> &'static str
 
 // The kind that has a word of its own, as it stands in a notebook.
 pub fn kind_of(word: &str) -> Option<u8>
-    ensures { λ r. ⌜ elim r [ Some k ↦ (k < 8) × (now (word .entry) ≡ word-of k) | None ↦ ((k : ℕ) → k < 8 → now (word .entry) ≡ word-of k → ⊥) ] ⌝ }
+    ensures { λ r. ⌜ elim r [
+      | Some k ↦ (k < 8) × (now (word .entry) ≡ word-of k)
+      | None ↦ ((k : ℕ) → k < 8 → now (word .entry) ≡ word-of k → ⊥)
+    ] ⌝ }
 {
     match word {
         "plain" => Some(0),

@@ -51,9 +51,12 @@ impl<'a, L: Label> Legend<'a, L> {
     // Adds a label at the end, and says whether there was a place for it.
     pub fn add(&mut self, label: L) -> bool
         ensures place { λ r. ⌜ r ≡ ltb (length (labels-of (now (self .entry)))) (room-of (now (self .entry))) ⌝ }
-        ensures labels { λ r. ⌜ labels-of (now (self .exit)) ≡ cond r (labels-of (now (self .entry)) ++ label ∷ []) (labels-of (now (self .entry))) ⌝ }
+        ensures labels { λ r. ⌜ labels-of (now (self .exit))
+            ≡ cond r (labels-of (now (self .entry)) ++ label ∷ []) (labels-of (now (self .entry))) ⌝ }
         ensures room { λ _. ⌜ room-of (now (self .exit)) ≡ room-of (now (self .entry)) ⌝ }
-        ensures others { λ r. ⌜ now (now (self .exit) .places) ≡ cond r (set (now (now (self .entry) .places)) (length (labels-of (now (self .entry)))) label) (now (now (self .entry) .places)) ⌝ }
+        ensures others { λ r. ⌜ now (now (self .exit) .places)
+            ≡ cond r (set (now (now (self .entry) .places)) (length (labels-of (now (self .entry)))) label)
+            (now (now (self .entry) .places)) ⌝ }
     {
         if self.free() == 0 {
             return false;

@@ -46,7 +46,10 @@ impl Pairing {
 
     // The pairing with these images, or none where they are too many or not those of a pairing.
     pub fn from_images(images: &[u8]) -> Option<Pairing>
-        ensures { λ r. ⌜ elim r [ Some p ↦ images-of p ≡ now (images .entry) | None ↦ (length (now (images .entry)) ≤ 64 → One-to-one-onto (now (images .entry)) → ⊥) ] ⌝ }
+        ensures { λ r. ⌜ elim r [
+          | Some p ↦ images-of p ≡ now (images .entry)
+          | None ↦ (length (now (images .entry)) ≤ 64 → One-to-one-onto (now (images .entry)) → ⊥)
+        ] ⌝ }
     {
         let count = images.len();
         if count > MOST {
@@ -85,7 +88,10 @@ impl Pairing {
     }
 
     pub fn image(&self, u: usize) -> Result<u8, Refusal>
-        ensures { λ r. ⌜ elim r [ Ok v ↦ (u < size-of (now (self .entry))) × (v ≡ image-of (now (self .entry)) u) | Err e ↦ (size-of (now (self .entry)) ≤ u) × (e ≡ NoSuchStation) ] ⌝ }
+        ensures { λ r. ⌜ elim r [
+          | Ok v ↦ (u < size-of (now (self .entry))) × (v ≡ image-of (now (self .entry)) u)
+          | Err e ↦ (size-of (now (self .entry)) ≤ u) × (e ≡ NoSuchStation)
+        ] ⌝ }
     {
         if u < self.count {
             Ok(self.images[u])
@@ -107,7 +113,11 @@ impl Pairing {
 
     // This pairing followed by another: a station goes to the other's image of its image.
     pub fn then(&self, other: &Pairing) -> Result<Pairing, Refusal>
-        ensures { λ r. ⌜ elim r [ Ok p ↦ (size-of (now (self .entry)) ≡ size-of (now (other .entry))) × Follows (now (self .entry)) (now (other .entry)) p | Err e ↦ (size-of (now (self .entry)) ≡ size-of (now (other .entry)) → ⊥) × (e ≡ CountsDiffer) ] ⌝ }
+        ensures { λ r. ⌜ elim r [
+          | Ok p ↦ (size-of (now (self .entry)) ≡ size-of (now (other .entry)))
+              × Follows (now (self .entry)) (now (other .entry)) p
+          | Err e ↦ (size-of (now (self .entry)) ≡ size-of (now (other .entry)) → ⊥) × (e ≡ CountsDiffer)
+        ] ⌝ }
     {
         if self.count != other.count {
             return Err(Refusal::CountsDiffer);
