@@ -26,7 +26,7 @@ use Rattle.survey.specs.Networks.{Net}
 
 module _ {L : Type 0} (sense : L → List ℤ) where
   -- where none is found among the stations of a list, none of them has a leg to itself
-  loops-none : (n : Net L) (us : List ℕ) → first-loop sense n us ≡ None → (u : ℕ) → In u us → n .leg u u ≡ None
+  pub loops-none : (n : Net L) (us : List ℕ) → first-loop sense n us ≡ None → (u : ℕ) → In u us → n .leg u u ≡ None
   loops-none n [] e u m = absurd m
   loops-none n (w ∷ ws) e u m = go (n .leg w w) refl e m (loops-none n ws)
     where

@@ -8,6 +8,9 @@ pub mod Loops
 pub mod Reading
 pub mod Stepwise
 pub mod Noting
+-- coding a network
+pub mod LegCodes
+pub mod InArrays
 -- the law over any list of calls
 pub mod Mapping
 pub mod Codings
