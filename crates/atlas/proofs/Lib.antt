@@ -11,6 +11,9 @@ pub mod Noting
 -- coding a network
 pub mod LegCodes
 pub mod InArrays
+-- blocks of lent bytes
+pub mod InBlocks
+pub mod KeptBlocks
 -- the law over any list of calls
 pub mod Mapping
 pub mod Codings

@@ -4,5 +4,6 @@ pub mod Lent
 pub mod Calls
 pub mod Readings
 pub mod Tables
+pub mod Blocks
 pub mod Law
 pub mod Worked

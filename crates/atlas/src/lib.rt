@@ -1,6 +1,7 @@
 // The atlas: networks of one form have one number.
 ghost use Rattle.atlas.specs.Worked.{Worked};
 
+mod block;
 mod coder;
 pub mod law;
 pub mod legend;
