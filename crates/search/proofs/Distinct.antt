@@ -63,7 +63,7 @@ apart_counting a zero = tt
 apart_counting a (suc n) =
     (λ m. let h = mem_counting (a + 1) n a m in omega arith, apart_counting (a + 1) n)
 
--- so are images under a one_to_one function
+-- so are images under a one-to-one function
 pub apart_map :
     (f : ℕ → ℕ) (xs : List ℕ) → ((u v : ℕ) → Mem u xs → Mem v xs → f u ≡ f v → u ≡ v) → Apart xs →
     Apart (map f xs)

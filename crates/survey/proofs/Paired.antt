@@ -1,4 +1,4 @@
--- Every pairing is one_to_one and onto below its count, and images that are one_to_one make a pairing.
+-- Every pairing is one-to-one and onto below its count, and images that are one-to-one make a pairing.
 use Rattle.std.proofs.Common.{◌≡◌, ℕ, zero, suc, ◌+◌, ◌-◌, ◌<◌, ◌≤◌, min, Bool, true, false, cond, eqb, List, [], ◌∷◌, length, get_or, take, sym, refl, ap, ◌∙◌, subst, arith, length-take, get_or-take}
 use Rattle.std.proofs.lemmas.Bool.Decides.{nat_tests}
 use Rattle.survey.proofs.Pigeonhole.{Parts, Reached, onto_below}
@@ -58,7 +58,7 @@ pairing_stands p = record { within = within; one_to_one = one; onto = onto }
         let s : source p v < size_of p = source_below p v (below v h) in
         (source p v, omega (arith, images_length p), images_at p (source p v) s ∙ source_back p v (below v h))
 
--- images that are one_to_one below n, with the source of each, lead back from every source too
+-- images that are one-to-one below n, with the source of each, lead back from every source too
 pub traced_back : (n : ℕ) (images sources : List ℕ) → ((u : ℕ) → u < n → (get_or images u 0 < n) × (get_or sources (get_or images u 0) 0 ≡ u)) → (v : ℕ) → v < n → (get_or sources v 0 < n) × (get_or images (get_or sources v 0) 0 ≡ v)
 traced_back n images sources paired v h = from (onto_below n (λ u. get_or images u 0) (λ u k. (paired u k).0) parts v h)
   where

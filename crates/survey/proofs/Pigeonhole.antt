@@ -1,4 +1,4 @@
--- A map of the numbers below n into themselves that is one_to_one is onto.
+-- A map of the numbers below n into themselves that is one-to-one is onto.
 use Rattle.std.proofs.Common.{◌≡◌, ℕ, zero, suc, ◌<◌, ◌≤◌, Bool, true, false, cond, eqb, ◌⊎◌, sym, refl, ap, ◌∙◌, subst, inl, inr, arith}
 use Rattle.std.proofs.lemmas.Bool.Decides.{nat_tests}
 

@@ -3,7 +3,7 @@ use Rattle.std.specs.Prelude.{◌≡◌, ℕ, ◌<◌, List, ℤ}
 use Rattle.std.specs.Option.{option_map}
 use Rattle.survey.specs.Networks.{Net}
 
--- a map from g to h pairs each station of g with one of h, one_to_one and onto; it keeps every kind,
+-- a map from g to h pairs each station of g with one of h, one-to-one and onto; it keeps every kind,
 -- and for every ordered pair a leg stands in both or in neither, with labels of equal sense
 pub record Map {L : Type 0} (sense : L → List ℤ) (g h : Net L) (to : ℕ → ℕ) : Type 0 where
   pub same_count : g.count ≡ h.count

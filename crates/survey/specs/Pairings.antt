@@ -26,7 +26,7 @@ OneToOne images = (u v : ℕ) → u < length images → v < length images → sl
 abbrev pub Onto : List ℕ → Type 0
 Onto images = (v : ℕ) → v < length images → (u : ℕ) × (u < length images) × (slice_index images u ≡ v)
 
--- the images of a pairing: of the stations below a count, one_to_one and onto
+-- the images of a pairing: of the stations below a count, one-to-one and onto
 pub record OneToOneOnto (images : List ℕ) : Type 0 where
   pub within : Within images
   pub one_to_one : OneToOne images

@@ -1,4 +1,6 @@
 // The subject of the atlas: labels of legs, networks of stations, layers over networks, and maps between them.
+#![tactic(auto)]
+
 pub mod both_ways;
 pub mod carries;
 pub mod either;

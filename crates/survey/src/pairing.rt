@@ -5,7 +5,7 @@ pub mod calls;
 // The most stations that a pairing holds.
 pub const MOST: usize = 64;
 
-// A pairing of 0 to 64 stations with as many, one_to_one and onto. The ghost fields say so of every value: from
+// A pairing of 0 to 64 stations with as many, one-to-one and onto. The ghost fields say so of every value: from
 // each station to its image and back, and from each image to its source and back.
 #[derive(Clone, Copy)]
 pub struct Pairing {

@@ -1,9 +1,10 @@
 ghost use Rattle.std.specs.Prelude.{◌≡◌, ℕ, ◌<◌, ◌≤◌, [], length, Some, None, Ok, Err, Decides, ◌≢◌};
 ghost use Rattle.survey.specs.Pairings.{size_of, image_of, images_of, OneToOneOnto, Identity, Reverses, Follows};
 ghost use Rattle.survey.specs.declared.refusal.Refusal.TheVariants.{NoSuchStation, TooManyStations, CountsDiffer};
-ghost use Rattle.std.specs.Cmp.Rules.{comparing};
-ghost use Rattle.std.proofs.Common.{rules, arith};
-ghost use Rattle.std.specs.Cmp as Keys;
+ghost use Rattle.std.specs.Cmp.{partial_equiv_from_equiv};
+ghost use Rattle.std.specs.Cmp.Lexicographic.{on_texts_equal};
+ghost use Rattle.std.specs.Ordering.{on};
+ghost use Rattle.std.specs.Str.{bytes_eq};
 
 use crate::pairing::{MOST, Pairing};
 use crate::refusal::Refusal;
@@ -76,7 +77,7 @@ impl Pairing {
         self.count
     }
 
-    // The images of the stations in order, read in place; they are one_to_one and onto.
+    // The images of the stations in order, read in place; they are one-to-one and onto.
     pub fn images(&self) -> &[u8]
         ensures list { result.now ≡ images_of self.now }
         ensures law { OneToOneOnto (images_of self.now) }
@@ -134,15 +135,18 @@ impl Pairing {
 }
 
 impl PartialEq for Pairing {
-    ghost equals = { λ p q r. Decides r (images_of p ≡ images_of q) };
+    ghost eq = { on images_of bytes_eq };
 
-    ghost laws = { Keys.partial_equiv_from_equiv (first_of (Prim.search (comparing, rules), Prim.grind (arith, Self.row.coded.inj))) };
+    ghost laws = { partial_equiv_from_equiv (on_texts_equal images_of) };
 
-    fn eq(&self, other: &Pairing) -> bool {
+    fn eq(&self, other: &Pairing) -> bool
+        ensures value { result ≡ on images_of bytes_eq self.now other.now }
+        ensures decides { Decides result (images_of self.now ≡ images_of other.now) }
+    {
         self.images() == other.images()
     }
 }
 
 impl Eq for Pairing {
-    ghost laws = { first_of (Prim.search (comparing, rules), Prim.grind (arith, Self.row.coded.inj)) };
+    ghost laws = { on_texts_equal images_of };
 }

@@ -2,7 +2,7 @@ use Rattle.std.proofs.Common.{◌≡◌, ℕ, ◌+◌, ◌-◌, ◌^◌, ◌<◌
 use Rattle.survey.specs.Without.{taken_out, taken_below}
 use Rattle.survey.proofs.TakenOut.{all_told, old_here, old_later, old_none, passes_out, passes_other}
 use Rattle.survey.proofs.without.old_number.Goals as goal
-use Rattle.survey.proofs.without.old_number.Goals.{else-not-is-out-via-then-not-is-out+else-old-ones-below, else-not-is-out-via-else-not-is-out}
+use Rattle.survey.proofs.without.old_number.Goals.{else-not-is_out-via-then-not-is_out+else-old-ones_below, else-not-is_out-via-else-not-is_out}
 
 pub overflow-sub-old : goal.overflow-sub-old
 overflow-sub-old c = omega (arith, all_told c.args.mask c.loop-old.old)
@@ -18,9 +18,9 @@ loop-old-preserved c =
     let mask = c.args.mask in
     let u = c.loop-old.old in
     let w = c.args.station in
-    elim c.else-not-is-out.branch [
-      | else-not-is-out-via-then-not-is-out+else-old-ones-below r ↦ passes_other mask u w (λ e. r.if-old-ones-below.false (ap (λ (n : ℕ). u - n) r.ones_below.ensures ∙ e)) c.loop-old.invariant
-      | else-not-is-out-via-else-not-is-out r ↦ passes_out mask u w (sym c.is-out.ensures ∙ r.if-not-is-out.false) c.loop-old.invariant
+    elim c.else-not-is_out.branch [
+      | else-not-is_out-via-then-not-is_out+else-old-ones_below r ↦ passes_other mask u w (λ e. r.if-old-ones-below.false (ap (λ (n : ℕ). u - n) r.ones_below.ensures ∙ e)) c.loop-old.invariant
+      | else-not-is_out-via-else-not-is_out r ↦ passes_out mask u w (sym c.is-out.ensures ∙ r.if-not-is-out.false) c.loop-old.invariant
     ]
 
 pub returns-then-old-count : goal.returns-then-old-count
@@ -31,7 +31,7 @@ returns-then-old-count c =
     let m : c.loop-old.old ≡ min n 64 = omega arith in
     let low : min n 64 - taken_below mask (min n 64) ≤ w = omega (arith, ap (taken_below mask) m, c.loop-old.invariant) in
     let fits : mask < 2 ^ 64 = omega arith in
-    ap (λ (k : ℕ). w + k) c.ones-below-2.ensures ∙ old_later mask 64 n w fits low (omega arith)
+    ap (λ (k : ℕ). w + k) c.ones_below-2.ensures ∙ old_later mask 64 n w fits low (omega arith)
 
 pub returns-else-old-count : goal.returns-else-old-count
 returns-else-old-count c = old_none c.args.mask c.args.count c.args.station (omega arith)

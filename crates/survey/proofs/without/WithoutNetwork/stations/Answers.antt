@@ -10,5 +10,5 @@ pub returns : goal.returns
 returns g c =
     let mask = c.args.self.now.mask in
     let told = all_told mask c.stations-count.result in
-    let left : c.stations-count.result - c.ones-below.result ≡ length (staying mask c.stations-count.result) = omega arith in
+    let left : c.stations-count.result - c.ones_below.result ≡ length (staying mask c.stations-count.result) = omega arith in
     left ∙ ap (λ (n : ℕ). length (staying mask n)) c.stations-count.ensures

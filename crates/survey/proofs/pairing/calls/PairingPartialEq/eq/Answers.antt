@@ -6,4 +6,4 @@ use Rattle.std.proofs.lemmas.Bool.Decides.{Decides-eqb}
 pub returns : goal.returns
 returns c =
     let same = slice_eq-Decides Decides-eqb _ _ _ c.eq.ensures in
-    (λ e. sym c.images.ensures.list ∙ same.0 e ∙ c.images-2.ensures.list, λ e. same.1 (c.images.ensures.list ∙ e ∙ sym c.images-2.ensures.list))
+    (record { value = λ e. sym c.images.ensures.list ∙ same.0 e ∙ c.images-2.ensures.list; decides = λ e. same.1 (c.images.ensures.list ∙ e ∙ sym c.images-2.ensures.list) })
