@@ -7,5 +7,5 @@ use Rattle.atlas.proofs.block.read_block.Goals as goal
 
 pub returns : goal.returns
 returns c =
-    let same = block_read c.args.bytes.now c.read-kinds.new.kinds c.read-codes.new.codes (replicate 64 0) (replicate 4096 0) c.args.k (zeros_at 64) (zeros_at 4096) c.read-kinds.ensures.kinds c.read-codes.ensures.codes _ refl in
+    let same = block_read c.args.bytes.now c.read_kinds.new.kinds c.read_codes.new.codes (replicate 64 0) (replicate 4096 0) c.args.k (zeros_at 64) (zeros_at 4096) c.read_kinds.ensures.kinds c.read_codes.ensures.codes _ refl in
     c.new.ensures ∙ ap {B = Option Coded} (λ (g : Coded). cond (searchable g) (Some g) None) same

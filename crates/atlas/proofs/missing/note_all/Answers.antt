@@ -14,20 +14,20 @@ loop-u-init g c =
     let ls = all_labels c.args.legend.now c.args.missing.now in
     (ap (λ (k : ℕ). noted_rows sense net.leg (range_with_len 0 k) (range_with_len 0 c.args.count) ls) {x = c.args.count - 0} {y = c.args.count} (omega arith), refl)
 
-pub returns-then-not-note-row : goal.returns-then-not-note-row
-returns-then-not-note-row g c =
+pub returns-then-not-note_row : goal.returns-then-not-note_row
+returns-then-not-note_row g c =
     let sense = g.Label.Label.sense in
     let net = g.N.Network.means c.args.net.now in
     let l = c.args.legend.now in
     let m = c.loop-u.missing in
     let n = c.args.count in
     let v = c.loop-u.u in
-    let over = c.if-not-note-row.ensures.fits in
+    let over = c.if-not-note_row.ensures.fits in
     record {
       fits = step_over (λ x ls. noted_row sense (net.leg x) (range_with_len 0 c.args.count) ls) (λ xs ls. noted_rows sense net.leg xs (range_with_len 0 c.args.count) ls) (λ ls. refl) (λ x xs ls. refl) (λ xs ls. (noted_rows_grown sense net.leg xs (range_with_len 0 c.args.count) ls).longer) v n (most_labels l m) (all_labels l m) _ c.loop-u-test.true c.loop-u.invariant.0 over
           ∙ ap (leb (length (noted_rows sense net.leg (range_with_len 0 n) (range_with_len 0 n) (all_labels l c.args.missing.now)))) c.loop-u.invariant.1;
       labels = λ t. let z : ◌≡◌ {A = ℕ} 0 1 = cc in absurd (omega arith);
-      most = c.note-row.ensures.most ∙ c.loop-u.invariant.1;
+      most = c.note_row.ensures.most ∙ c.loop-u.invariant.1;
     }
 
 pub loop-u-preserved : goal.loop-u-preserved
@@ -36,12 +36,12 @@ loop-u-preserved g c =
     let net = g.N.Network.means c.args.net.now in
     let l = c.args.legend.now in
     let m = c.loop-u.missing in
-    let k = c.note-row.new.missing in
+    let k = c.note_row.new.missing in
     let n = c.args.count in
     let v = c.loop-u.u in
-    let put : all_labels l k ≡ noted_row sense (net.leg v) (range_with_len 0 c.args.count) (all_labels l m) = c.note-row.ensures.labels c.if-not-note-row.false in (
+    let put : all_labels l k ≡ noted_row sense (net.leg v) (range_with_len 0 c.args.count) (all_labels l m) = c.note_row.ensures.labels c.if-not-note_row.false in (
       step_again (λ x ls. noted_row sense (net.leg x) (range_with_len 0 c.args.count) ls) (λ xs ls. noted_rows sense net.leg xs (range_with_len 0 c.args.count) ls) (λ ls. refl) (λ x xs ls. refl) (λ xs ls. (noted_rows_grown sense net.leg xs (range_with_len 0 c.args.count) ls).longer) v n (all_labels l m) (all_labels l k) _ c.loop-u-test.true c.loop-u.invariant.0 put,
-      c.note-row.ensures.most ∙ c.loop-u.invariant.1,
+      c.note_row.ensures.most ∙ c.loop-u.invariant.1,
     )
 
 pub returns : goal.returns

@@ -8,11 +8,11 @@ pub loop-u-init : goal.loop-u-init
 loop-u-init g c =
     ap (λ (k : ℕ). first_loop g.Label.Label.sense (g.N.Network.means c.args.net.now) (range_with_len 0 k)) (omega arith)
 
-pub returns-then-is-some : goal.returns-then-is-some
-returns-then-is-some g c =
+pub returns-then-is_some : goal.returns-then-is_some
+returns-then-is_some g c =
     let u = c.loop-u.u in
     let k = c.args.count - u in
-    sym (loop_here g.Label.Label.sense (g.N.Network.means c.args.net.now) u k c.leg.result (omega arith) c.leg.ensures (sym c.if-is-some.ensures))
+    sym (loop_here g.Label.Label.sense (g.N.Network.means c.args.net.now) u k c.leg.result (omega arith) c.leg.ensures (sym c.if-is_some.ensures))
     ∙ c.loop-u.invariant
 
 pub loop-u-preserved : goal.loop-u-preserved
@@ -21,7 +21,7 @@ loop-u-preserved g c =
     let k = c.args.count - u in
     let n = g.N.Network.means c.args.net.now in
     ap (λ (m : ℕ). first_loop g.Label.Label.sense n (range_with_len (u + 1) m)) (omega arith)
-    ∙ sym (loop_later g.Label.Label.sense n u k c.leg.result (omega arith) c.leg.ensures (sym c.if-is-some.ensures))
+    ∙ sym (loop_later g.Label.Label.sense n u k c.leg.result (omega arith) c.leg.ensures (sym c.if-is_some.ensures))
     ∙ c.loop-u.invariant
 
 pub returns : goal.returns

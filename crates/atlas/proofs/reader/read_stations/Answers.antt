@@ -10,12 +10,12 @@ pub returns-then-count-eq0 : goal.returns-then-count-eq0
 returns-then-count-eq0 g c =
     sym (read_none g.Label.Label.sense (g.N.Network.means c.args.net.now) (sym c.stations-count.ensures ∙ c.if-count-eq0.true))
 
-pub returns-then-count-gt-MOST-STATIONS : goal.returns-then-count-gt-MOST-STATIONS
-returns-then-count-gt-MOST-STATIONS g c =
+pub returns-then-count-gt-MOST_STATIONS : goal.returns-then-count-gt-MOST_STATIONS
+returns-then-count-gt-MOST_STATIONS g c =
     sym (read_many g.Label.Label.sense (g.N.Network.means c.args.net.now) (omega (arith, c.stations-count.ensures)))
 
-pub overflow-cast-result : goal.overflow-cast-result
-overflow-cast-result g c =
+pub overflow_cast-result : goal.overflow_cast-result
+overflow_cast-result g c =
     let low = loop_below g.Label.Label.sense (g.N.Network.means c.args.net.now) 0 c.stations-count.result c.in-Some.u (sym c.in-Some.ensures) in
     record { fits = omega arith }
 

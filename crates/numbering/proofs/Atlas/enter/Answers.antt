@@ -83,8 +83,8 @@ returns-then-len-ne0 g c =
     let done = c.number.ensures c.args.place.now in
     record { carried = carried sense a _ call _ is _ _ _ done; law = keeps_law sense s call _ is _ _ _ done.says }
 
-pub coded-network-requires : goal.coded-network-requires
-coded-network-requires g c =
+pub coded_network-requires : goal.coded_network-requires
+coded_network-requires g c =
     let sense = g.L.Label.sense in
     let n = g.N.Network.means c.args.net.now in
     let a = c.args.self.now in
@@ -118,9 +118,9 @@ returns-in-Found g c =
     let call = entering n c.args.allowance in
     let read = subst (λ (o : Option Draft). Reads sense n a.legend c.free-free.result (Ok o)) c.in-Some.is c.in-ok-draft.ensures in
     let placed : length (full_legend sense n s.legend) ≤ s.places = omega (arith, read.1, c.free-free.ensures, labels_length a.legend) in
-    let o = sought_in (coded c.coded-network.result) 1 s.forms in
+    let o = sought_in (coded c.coded_network.result) 1 s.forms in
     let few : length (full_legend sense n s.legend) ≤ length s.legend = omega (arith, ap length read.0.labels, all_length a.legend n c.in-Some.draft.missing read.0.noted, c.len.ensures, c.if-len-ne0.false) in
-    let searched = sought_known sense s n few ∙ ap (λ (h : Coded). sought_in h 1 s.forms) (sym c.coded-network.ensures) in
+    let searched = sought_known sense s n few ∙ ap (λ (h : Coded). sought_in h 1 s.forms) (sym c.coded_network.ensures) in
     let settles = enter_settles sense s n c.args.allowance n.count o read.0.read placed searched in
     let is = settles ∙ settled_found sense s n call (full_legend sense n s.legend) o c.in-Found.form c.in-Found.trials c.in-Found.ensures.answer in
     let done = quiet sense a (known c.in-Found.form c.in-Found.trials _) _ c.args.place.now c.seek.new.place (record { answer = refl; place = c.in-Found.ensures.placed }) (λ bytes places. (refl, refl)) in
@@ -136,9 +136,9 @@ returns-in-Nowhere g c =
     let call = entering n c.args.allowance in
     let read = subst (λ (o : Option Draft). Reads sense n a.legend c.free-free.result (Ok o)) c.in-Some.is c.in-ok-draft.ensures in
     let placed : length (full_legend sense n s.legend) ≤ s.places = omega (arith, read.1, c.free-free.ensures, labels_length a.legend) in
-    let o = sought_in (coded c.coded-network.result) 1 s.forms in
+    let o = sought_in (coded c.coded_network.result) 1 s.forms in
     let few : length (full_legend sense n s.legend) ≤ length s.legend = omega (arith, ap length read.0.labels, all_length a.legend n c.in-Some.draft.missing read.0.noted, c.len.ensures, c.if-len-ne0.false) in
-    let searched = sought_known sense s n few ∙ ap (λ (h : Coded). sought_in h 1 s.forms) (sym c.coded-network.ensures) in
+    let searched = sought_known sense s n few ∙ ap (λ (h : Coded). sought_in h 1 s.forms) (sym c.coded_network.ensures) in
     let settles = enter_settles sense s n c.args.allowance n.count o read.0.read placed searched in
     let is = settles ∙ settled_nowhere sense s n call (full_legend sense n s.legend) o c.in-Nowhere.trials c.in-Nowhere.ensures.answer in
     let done = subst (λ (q : Pairing). Carried sense (unmet sense s n c.in-Nowhere.trials) c.number-in-Nowhere.result q c.seek.new.place a c.number-in-Nowhere.new.self) c.in-Nowhere.ensures.placed (c.number-in-Nowhere.ensures c.seek.new.place) in
@@ -154,9 +154,9 @@ returns-in-Spent g c =
     let call = entering n c.args.allowance in
     let read = subst (λ (o : Option Draft). Reads sense n a.legend c.free-free.result (Ok o)) c.in-Some.is c.in-ok-draft.ensures in
     let placed : length (full_legend sense n s.legend) ≤ s.places = omega (arith, read.1, c.free-free.ensures, labels_length a.legend) in
-    let o = sought_in (coded c.coded-network.result) 1 s.forms in
+    let o = sought_in (coded c.coded_network.result) 1 s.forms in
     let few : length (full_legend sense n s.legend) ≤ length s.legend = omega (arith, ap length read.0.labels, all_length a.legend n c.in-Some.draft.missing read.0.noted, c.len.ensures, c.if-len-ne0.false) in
-    let searched = sought_known sense s n few ∙ ap (λ (h : Coded). sought_in h 1 s.forms) (sym c.coded-network.ensures) in
+    let searched = sought_known sense s n few ∙ ap (λ (h : Coded). sought_in h 1 s.forms) (sym c.coded_network.ensures) in
     let settles = enter_settles sense s n c.args.allowance n.count o read.0.read placed searched in
     let is = settles ∙ settled_spent sense s n call (full_legend sense n s.legend) o c.in-Spent.ensures.answer in
     let done = quiet sense a (spent c.args.allowance) _ c.args.place.now c.seek.new.place (record { answer = refl; place = c.in-Spent.ensures.placed }) (λ bytes places. (refl, refl)) in

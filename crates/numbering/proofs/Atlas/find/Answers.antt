@@ -47,8 +47,8 @@ returns-in-default g c =
     let say : Says (unknown 0) _ _ _ = record { answer = refl; place = refl } in
     record { answer = says sense s call _ is _ _ _ say; law = keeps_law sense s call _ is _ _ _ say }
 
-pub coded-network-requires : goal.coded-network-requires
-coded-network-requires g c =
+pub coded_network-requires : goal.coded_network-requires
+coded_network-requires g c =
     let sense = g.L.Label.sense in
     let n = g.N.Network.means c.args.net.now in
     let a = c.args.self.now in
@@ -69,9 +69,9 @@ returns-in-Found g c =
     let s = held_of a in
     let call = finding n c.args.allowance in
     let read = subst (λ (o : Option Draft). Reads sense n a.legend 0 (Ok o)) c.in-Some.is c.in-ok-draft.ensures in
-    let o = sought_in (coded c.coded-network.result) 1 s.forms in
+    let o = sought_in (coded c.coded_network.result) 1 s.forms in
     let few : length (full_legend sense n s.legend) ≤ length s.legend = omega (arith, read.1) in
-    let searched = sought_known sense s n few ∙ ap (λ (h : Coded). sought_in h 1 s.forms) (sym c.coded-network.ensures) in
+    let searched = sought_known sense s n few ∙ ap (λ (h : Coded). sought_in h 1 s.forms) (sym c.coded_network.ensures) in
     let settles = find_settles sense s n c.args.allowance n.count o read.0.read searched in
     let is = settles ∙ settled_found sense s n call (full_legend sense n s.legend) o c.in-Found.form c.in-Found.trials c.in-Found.ensures.answer in
     let say : Says (known c.in-Found.form c.in-Found.trials _) _ _ _ = record { answer = refl; place = c.in-Found.ensures.placed } in
@@ -86,9 +86,9 @@ returns-in-Nowhere g c =
     let s = held_of a in
     let call = finding n c.args.allowance in
     let read = subst (λ (o : Option Draft). Reads sense n a.legend 0 (Ok o)) c.in-Some.is c.in-ok-draft.ensures in
-    let o = sought_in (coded c.coded-network.result) 1 s.forms in
+    let o = sought_in (coded c.coded_network.result) 1 s.forms in
     let few : length (full_legend sense n s.legend) ≤ length s.legend = omega (arith, read.1) in
-    let searched = sought_known sense s n few ∙ ap (λ (h : Coded). sought_in h 1 s.forms) (sym c.coded-network.ensures) in
+    let searched = sought_known sense s n few ∙ ap (λ (h : Coded). sought_in h 1 s.forms) (sym c.coded_network.ensures) in
     let settles = find_settles sense s n c.args.allowance n.count o read.0.read searched in
     let is = settles ∙ settled_nowhere sense s n call (full_legend sense n s.legend) o c.in-Nowhere.trials c.in-Nowhere.ensures.answer in
     let say : Says (unknown c.in-Nowhere.trials) _ _ _ = record { answer = refl; place = c.in-Nowhere.ensures.placed } in
@@ -103,9 +103,9 @@ returns-in-Spent g c =
     let s = held_of a in
     let call = finding n c.args.allowance in
     let read = subst (λ (o : Option Draft). Reads sense n a.legend 0 (Ok o)) c.in-Some.is c.in-ok-draft.ensures in
-    let o = sought_in (coded c.coded-network.result) 1 s.forms in
+    let o = sought_in (coded c.coded_network.result) 1 s.forms in
     let few : length (full_legend sense n s.legend) ≤ length s.legend = omega (arith, read.1) in
-    let searched = sought_known sense s n few ∙ ap (λ (h : Coded). sought_in h 1 s.forms) (sym c.coded-network.ensures) in
+    let searched = sought_known sense s n few ∙ ap (λ (h : Coded). sought_in h 1 s.forms) (sym c.coded_network.ensures) in
     let settles = find_settles sense s n c.args.allowance n.count o read.0.read searched in
     let is = settles ∙ settled_spent sense s n call (full_legend sense n s.legend) o c.in-Spent.ensures.answer in
     let say : Says (spent c.args.allowance) _ _ _ = record { answer = refl; place = c.in-Spent.ensures.placed } in

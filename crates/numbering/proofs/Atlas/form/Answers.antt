@@ -5,8 +5,8 @@ use Rattle.atlas.specs.Holding.{bytes_of}
 use Rattle.atlas.proofs.Holding.{forms_length, form_there, form_lacking}
 use Rattle.atlas.proofs.Atlas.form.Goals as goal
 
-pub read-block-requires : goal.read-block-requires
-read-block-requires g c = omega (arith, c.requires, forms_length c.args.self.now)
+pub read_block-requires : goal.read_block-requires
+read_block-requires g c = omega (arith, c.requires, forms_length c.args.self.now)
 
 pub returns-in-Some : goal.returns-in-Some
 unfolding bytes_of
@@ -15,4 +15,4 @@ returns-in-Some g c = form_there coded (block_coded c.args.self.now.bytes.now c.
 pub returns-in-None : goal.returns-in-None
 unfolding bytes_of
 returns-in-None g c =
-    c.no-form.ensures ∙ form_lacking coded (block_coded c.args.self.now.bytes.now c.args.k) c.in-None.ensures
+    c.no_form.ensures ∙ form_lacking coded (block_coded c.args.self.now.bytes.now c.args.k) c.in-None.ensures

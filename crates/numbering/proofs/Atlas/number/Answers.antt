@@ -61,8 +61,8 @@ store-requires g c =
       trimmed = subst (λ (h : Coded). trimmed h ≡ h) is (trimmed_coded sense ls n bounds);
     }
 
-pub overflow-cast-result : goal.overflow-cast-result
-overflow-cast-result g c = record { fits = omega (arith, c.count-2.ensures, forms_length c.store.new.self) }
+pub overflow_cast-result : goal.overflow_cast-result
+overflow_cast-result g c = record { fits = omega (arith, c.count-2.ensures, forms_length c.store.new.self) }
 
 pub returns : goal.returns
 unfolding held_of bytes_of places_of unmet

@@ -23,14 +23,14 @@ loop-k-init g c =
 pub form-form-requires : goal.form-form-requires
 form-form-requires g c = omega (arith, c.loop-k-test.true, c.count-k-end.ensures)
 
-pub overflow-cast-result : goal.overflow-cast-result
-overflow-cast-result g c = record { fits = omega (arith, c.loop-k-test.true, c.count-k-end.ensures, forms_length c.args.self.now) }
+pub overflow_cast-result : goal.overflow_cast-result
+overflow_cast-result g c = record { fits = omega (arith, c.loop-k-test.true, c.count-k-end.ensures, forms_length c.args.self.now) }
 
-pub overflow-add-result : goal.overflow-add-result
-overflow-add-result g c = record { fits = omega (arith, c.loop-k-test.true, c.count-k-end.ensures, forms_length c.args.self.now) }
+pub overflow_add-result : goal.overflow_add-result
+overflow_add-result g c = record { fits = omega (arith, c.loop-k-test.true, c.count-k-end.ensures, forms_length c.args.self.now) }
 
-pub overflow-add-result-in-Map : goal.overflow-add-result-in-Map
-overflow-add-result-in-Map g c =
+pub overflow_add-result-in-Map : goal.overflow_add-result-in-Map
+overflow_add-result-in-Map g c =
     let a = c.args.self.now in
     let h = coded c.args.network.now in
     let f = form_in (bytes_of a) in
@@ -61,8 +61,8 @@ returns-in-Map g c =
       placed = c.in-Map.ensures.placed ∙ here_images (k + 1) form (searched form h) rest c.args.allowance t c.loop-k.invariant.0 whole turn more said;
     }
 
-pub overflow-add-trials : goal.overflow-add-trials
-overflow-add-trials g c =
+pub overflow_add-trials : goal.overflow_add-trials
+overflow_add-trials g c =
     let a = c.args.self.now in
     let h = coded c.args.network.now in
     let f = form_in (bytes_of a) in

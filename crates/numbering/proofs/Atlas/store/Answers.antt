@@ -8,14 +8,14 @@ use Rattle.atlas.proofs.Holding.{forms_length, blocks_held, forms_stored}
 use Rattle.atlas.proofs.InArrays.{code_searchable}
 use Rattle.atlas.proofs.Atlas.store.Goals as goal
 
-pub write-block-requires : goal.write-block-requires
-write-block-requires g c = record {
+pub write_block-requires : goal.write_block-requires
+write_block-requires g c = record {
   block = omega (arith, c.requires.free, c.count-next.ensures, blocks_held c.args.self.now);
   kinds = c.requires.kinds;
 }
 
-pub overflow-add-self : goal.overflow-add-self
-overflow-add-self g c = record { fits = omega (arith, c.count-next.ensures, forms_length c.args.self.now) }
+pub overflow_add-self : goal.overflow_add-self
+overflow_add-self g c = record { fits = omega (arith, c.count-next.ensures, forms_length c.args.self.now) }
 
 pub returns : goal.returns
 unfolding held_of bytes_of places_of
@@ -24,11 +24,11 @@ returns g c =
     let form = coded c.args.form.now in
     let k = c.count-next.result in
     let old = a.bytes.now in
-    let new = c.write-block.new.bytes in
-    let size = c.write-block.ensures.length in
+    let new = c.write_block.new.bytes in
+    let size = c.write_block.ensures.length in
     let blocks : blocks_in new ≡ blocks_in old = ap (λ (n : ℕ). min (n / 4161) 200) size in
-    let put : block_coded new k ≡ form = c.write-block.ensures.form ∙ c.requires.trimmed in
-    let kept = c.write-block.ensures.others in
+    let put : block_coded new k ≡ form = c.write_block.ensures.form ∙ c.requires.trimmed in
+    let kept = c.write_block.ensures.others in
     let counted : k ≡ min a.forms (blocks_in old) = c.count-next.ensures ∙ forms_length a in
     let forms : forms_in new (min (k + 1) (blocks_in new)) ≡ forms_in old (min a.forms (blocks_in old)) ++ form ∷ [] =
     ap (forms_in new) {x = min (k + 1) (blocks_in new)} {y = k + 1} (omega (arith, blocks, c.requires.free, c.count-next.ensures, blocks_held a))

@@ -15,10 +15,10 @@ unreachable-requires g c =
     let ls = labels_of c.args.legend.now in
     let bounds = g.N.Network.bounded c.args.net.now in
     let small : n.count ≤ 64 = omega (arith, c.requires.stations, c.requires.few) in
-    let kinds = c.put-kinds.new.kinds in
-    let codes = c.put-rows.new.codes in
+    let kinds = c.put_kinds.new.kinds in
+    let codes = c.put_rows.new.codes in
     there_some coded (in_arrays c.args.count kinds codes) (coded_by sense ls n)
-    (arrays_coded sense ls n small bounds c.args.count c.requires.stations (replicate 64 0) (replicate 4096 0) kinds codes (zeros_at 64) (zeros_at 4096) c.put-kinds.ensures.kinds c.put-rows.ensures.codes)
+    (arrays_coded sense ls n small bounds c.args.count c.requires.stations (replicate 64 0) (replicate 4096 0) kinds codes (zeros_at 64) (zeros_at 4096) c.put_kinds.ensures.kinds c.put_rows.ensures.codes)
     (coded_searchable sense ls n small (ap (λ (k : ℕ). first_loop sense n (range_with_len 0 k)) (sym c.requires.stations) ∙ c.requires.loopless))
     c.in-None.ensures
 
@@ -29,10 +29,10 @@ returns g c =
     let ls = labels_of c.args.legend.now in
     let bounds = g.N.Network.bounded c.args.net.now in
     let small : n.count ≤ 64 = omega (arith, c.requires.stations, c.requires.few) in
-    let kinds = c.put-kinds.new.kinds in
-    let codes = c.put-rows.new.codes in
+    let kinds = c.put_kinds.new.kinds in
+    let codes = c.put_rows.new.codes in
     there_is coded (in_arrays c.args.count kinds codes) (coded_by sense ls n)
-    (arrays_coded sense ls n small bounds c.args.count c.requires.stations (replicate 64 0) (replicate 4096 0) kinds codes (zeros_at 64) (zeros_at 4096) c.put-kinds.ensures.kinds c.put-rows.ensures.codes)
+    (arrays_coded sense ls n small bounds c.args.count c.requires.stations (replicate 64 0) (replicate 4096 0) kinds codes (zeros_at 64) (zeros_at 4096) c.put_kinds.ensures.kinds c.put_rows.ensures.codes)
     (coded_searchable sense ls n small (ap (λ (k : ℕ). first_loop sense n (range_with_len 0 k)) (sym c.requires.stations) ∙ c.requires.loopless))
     c.in-Some.form
     c.in-Some.ensures

@@ -8,13 +8,13 @@ use Rattle.atlas.proofs.Noting.{none_noted, none_labels, most_is}
 use Rattle.atlas.proofs.Reading.{read_ok}
 use Rattle.atlas.proofs.coder.read.Goals as goal
 
-pub note-all-requires : goal.note-all-requires
-note-all-requires g c =
+pub note_all-requires : goal.note_all-requires
+note_all-requires g c =
     none_noted c.args.legend.now (g.N.Network.means c.args.net.now) c.none_missing.result c.none_missing.ensures.legs
 
 -- noting the legs of as many stations as there are, from the labels of the legend on, gives the full legend
-pub returns-then-note-all : goal.returns-then-note-all
-returns-then-note-all g c =
+pub returns-then-note_all : goal.returns-then-note_all
+returns-then-note_all g c =
     let sense = g.Label.Label.sense in
     let n = g.N.Network.means c.args.net.now in
     let l = c.args.legend.now in
@@ -27,14 +27,14 @@ returns-then-note-all g c =
       record {
         stations = is;
         read = sym c.in-ok-stations.ensures ∙ ap {B = Result ℕ Refusal} Ok is;
-        noted = c.note-all.ensures.legs;
-        labels = c.note-all.ensures.labels c.if-note-all.true ∙ full;
+        noted = c.note_all.ensures.legs;
+        labels = c.note_all.ensures.labels c.if-note_all.true ∙ full;
       },
-      omega (arith, leb-true _ _ (sym c.note-all.ensures.fits ∙ c.if-note-all.true), ap length full, most),
+      omega (arith, leb-true _ _ (sym c.note_all.ensures.fits ∙ c.if-note_all.true), ap length full, most),
     )
 
-pub returns-else-note-all : goal.returns-else-note-all
-returns-else-note-all g c =
+pub returns-else-note_all : goal.returns-else-note_all
+returns-else-note_all g c =
     let sense = g.Label.Label.sense in
     let n = g.N.Network.means c.args.net.now in
     let l = c.args.legend.now in
@@ -44,4 +44,4 @@ returns-else-note-all g c =
     let begun = none_labels l n m c.none_missing.ensures.legs in
     let full : noted_rows sense n.leg (range_with_len 0 k) (range_with_len 0 k) (all_labels l n m) ≡ full_legend sense n (labels_of l) = ap (λ (j : ℕ). noted_rows sense n.leg (range_with_len 0 j) (range_with_len 0 j) (all_labels l n m)) is ∙ ap (full_legend sense n) begun in
     let most : most_labels l m ≡ length (labels_of l) + c.args.most = most_is l m ∙ ap (λ (j : ℕ). length (labels_of l) + j) c.none_missing.ensures.most in
-    (sym c.in-ok-stations.ensures ∙ ap {B = Result ℕ Refusal} Ok is, omega (arith, leb-false _ _ (sym c.note-all.ensures.fits ∙ c.if-note-all.false), ap length full, most))
+    (sym c.in-ok-stations.ensures ∙ ap {B = Result ℕ Refusal} Ok is, omega (arith, leb-false _ _ (sym c.note_all.ensures.fits ∙ c.if-note_all.false), ap length full, most))

@@ -4,14 +4,14 @@ use Rattle.survey.proofs.TakenOut.{all_told, old_here, old_later, old_none, pass
 use Rattle.survey.proofs.without.old_number.Goals as goal
 use Rattle.survey.proofs.without.old_number.Goals.{else-not-is_out-via-then-not-is_out+else-old-ones_below, else-not-is_out-via-else-not-is_out}
 
-pub overflow-sub-old : goal.overflow-sub-old
-overflow-sub-old c = omega (arith, all_told c.args.mask c.loop-old.old)
+pub overflow_sub-old : goal.overflow_sub-old
+overflow_sub-old c = omega (arith, all_told c.args.mask c.loop-old.old)
 
-pub returns-then-old-ones-below : goal.returns-then-old-ones-below
-returns-then-old-ones-below c =
+pub returns-then-old-ones_below : goal.returns-then-old-ones_below
+returns-then-old-ones_below c =
     let u = c.loop-old.old in
     let here : u - taken_below c.args.mask u ≡ c.args.station = omega arith in
-    old_here c.args.mask c.args.count u c.args.station (omega arith) (sym c.if-not-is-out.ensures) here
+    old_here c.args.mask c.args.count u c.args.station (omega arith) (sym c.if-not-is_out.ensures) here
 
 pub loop-old-preserved : goal.loop-old-preserved
 loop-old-preserved c =
@@ -19,8 +19,8 @@ loop-old-preserved c =
     let u = c.loop-old.old in
     let w = c.args.station in
     elim c.else-not-is_out.branch [
-      | else-not-is_out-via-then-not-is_out+else-old-ones_below r ↦ passes_other mask u w (λ e. r.if-old-ones-below.false (ap (λ (n : ℕ). u - n) r.ones_below.ensures ∙ e)) c.loop-old.invariant
-      | else-not-is_out-via-else-not-is_out r ↦ passes_out mask u w (sym c.is-out.ensures ∙ r.if-not-is-out.false) c.loop-old.invariant
+      | else-not-is_out-via-then-not-is_out+else-old-ones_below r ↦ passes_other mask u w (λ e. r.if-old-ones_below.false (ap (λ (n : ℕ). u - n) r.ones_below.ensures ∙ e)) c.loop-old.invariant
+      | else-not-is_out-via-else-not-is_out r ↦ passes_out mask u w (sym c.is_out.ensures ∙ r.if-not-is_out.false) c.loop-old.invariant
     ]
 
 pub returns-then-old-count : goal.returns-then-old-count

@@ -14,8 +14,8 @@ offset-bounds-places-end g c =
     let low : c.len-end.result < length l.places.now = omega (arith, labels_length l, room_is l) in
     search rules
 
-pub overflow-add-self : goal.overflow-add-self
-overflow-add-self g c = omega (arith, labels_length c.args.self.now, room_is c.args.self.now)
+pub overflow_add-self : goal.overflow_add-self
+overflow_add-self g c = omega (arith, labels_length c.args.self.now, room_is c.args.self.now)
 
 pub returns-then-end-room : goal.returns-then-end-room
 returns-then-end-room g c =

@@ -11,11 +11,11 @@ bounds-places-i g c = omega (arith, c.len-i-end.ensures, labels_length c.args.se
 pub offset-bounds-places-i : goal.offset-bounds-places-i
 offset-bounds-places-i g c = omega (arith, c.len-i-end.ensures, labels_length c.args.self.now, room_is c.args.self.now)
 
-pub overflow-cast-result : goal.overflow-cast-result
-overflow-cast-result g c = record { fits = omega (arith, c.len-i-end.ensures, labels_length c.args.self.now, room_is c.args.self.now) }
+pub overflow_cast-result : goal.overflow_cast-result
+overflow_cast-result g c = record { fits = omega (arith, c.len-i-end.ensures, labels_length c.args.self.now, room_is c.args.self.now) }
 
-pub overflow-add-result : goal.overflow-add-result
-overflow-add-result g c = omega (arith, c.len-i-end.ensures, labels_length c.args.self.now, room_is c.args.self.now)
+pub overflow_add-result : goal.overflow_add-result
+overflow_add-result g c = omega (arith, c.len-i-end.ensures, labels_length c.args.self.now, room_is c.args.self.now)
 
 pub returns-then-same : goal.returns-then-same
 returns-then-same g c =

@@ -14,23 +14,23 @@ loop-u-init g c =
     let ls = all_labels c.args.legend.now n c.args.missing.now in
     (ap (λ (k : ℕ). noted_rows sense n.leg (range_with_len 0 k) (range_with_len 0 c.args.count) ls) {x = c.args.count - 0} {y = c.args.count} (omega arith), refl, c.requires)
 
-pub note-row-requires : goal.note-row-requires
-note-row-requires g c = c.loop-u.invariant.2
+pub note_row-requires : goal.note_row-requires
+note_row-requires g c = c.loop-u.invariant.2
 
-pub returns-then-not-note-row : goal.returns-then-not-note-row
-returns-then-not-note-row g c =
+pub returns-then-not-note_row : goal.returns-then-not-note_row
+returns-then-not-note_row g c =
     let sense = g.Label.Label.sense in
     let n = g.N.Network.means c.args.net.now in
     let l = c.args.legend.now in
     let m = c.loop-u.missing in
     let k = c.args.count in
-    let over = c.if-not-note-row.ensures.fits in
+    let over = c.if-not-note_row.ensures.fits in
     record {
       fits = step_over (λ x ls. noted_row sense (n.leg x) (range_with_len 0 c.args.count) ls) (λ xs ls. noted_rows sense n.leg xs (range_with_len 0 c.args.count) ls) (λ ls. refl) (λ x xs ls. refl) (λ xs ls. (noted_rows_grown sense n.leg xs (range_with_len 0 c.args.count) ls).longer) c.loop-u.u k (most_labels l m) (all_labels l n m) _ c.loop-u-test.true c.loop-u.invariant.0 over
           ∙ ap (leb (length (noted_rows sense n.leg (range_with_len 0 k) (range_with_len 0 k) (all_labels l n c.args.missing.now)))) (most_kept l c.args.missing.now m c.loop-u.invariant.1);
       labels = λ t. let z : ◌≡◌ {A = ℕ} 0 1 = cc in absurd (omega arith);
-      most = c.note-row.ensures.most ∙ c.loop-u.invariant.1;
-      legs = c.note-row.ensures.legs;
+      most = c.note_row.ensures.most ∙ c.loop-u.invariant.1;
+      legs = c.note_row.ensures.legs;
     }
 
 pub loop-u-preserved : goal.loop-u-preserved
@@ -39,10 +39,10 @@ loop-u-preserved g c =
     let n = g.N.Network.means c.args.net.now in
     let l = c.args.legend.now in
     let m = c.loop-u.missing in
-    let k = c.note-row.new.missing in (
-      step_again (λ x ls. noted_row sense (n.leg x) (range_with_len 0 c.args.count) ls) (λ xs ls. noted_rows sense n.leg xs (range_with_len 0 c.args.count) ls) (λ ls. refl) (λ x xs ls. refl) (λ xs ls. (noted_rows_grown sense n.leg xs (range_with_len 0 c.args.count) ls).longer) c.loop-u.u c.args.count (all_labels l n m) (all_labels l n k) _ c.loop-u-test.true c.loop-u.invariant.0 (c.note-row.ensures.labels c.if-not-note-row.false),
-      c.note-row.ensures.most ∙ c.loop-u.invariant.1,
-      c.note-row.ensures.legs,
+    let k = c.note_row.new.missing in (
+      step_again (λ x ls. noted_row sense (n.leg x) (range_with_len 0 c.args.count) ls) (λ xs ls. noted_rows sense n.leg xs (range_with_len 0 c.args.count) ls) (λ ls. refl) (λ x xs ls. refl) (λ xs ls. (noted_rows_grown sense n.leg xs (range_with_len 0 c.args.count) ls).longer) c.loop-u.u c.args.count (all_labels l n m) (all_labels l n k) _ c.loop-u-test.true c.loop-u.invariant.0 (c.note_row.ensures.labels c.if-not-note_row.false),
+      c.note_row.ensures.most ∙ c.loop-u.invariant.1,
+      c.note_row.ensures.legs,
     )
 
 pub returns : goal.returns

@@ -9,7 +9,7 @@ use Rattle.survey.proofs.pairing.Pairing.carries.Goals.{then-stations-count-via-
 
 pub returns-then-stations-count : goal.returns-then-stations-count
 returns-then-stations-count g c =
-    let sense = g.Label-as-Label.sense in
+    let sense = g.G.Label.Label.sense in
     let p = c.args.self.now in
     let G = g.G.Network.means c.args.g.now in
     let H = g.H.Network.means c.args.h.now in
@@ -26,14 +26,14 @@ returns-then-stations-count g c =
       compose = maps_compose sense G H;
     }
 
-pub returns-then-not-keeps-kinds : goal.returns-then-not-keeps-kinds
-returns-then-not-keeps-kinds g c =
-    let sense = g.Label-as-Label.sense in
+pub returns-then-not-keeps_kinds : goal.returns-then-not-keeps_kinds
+returns-then-not-keeps_kinds g c =
+    let sense = g.G.Label.Label.sense in
     let p = c.args.self.now in
     let G = g.G.Network.means c.args.g.now in
     let H = g.H.Network.means c.args.h.now in
     let other : Carries sense p G H → ⊥ =
-    λ m. not_from_Decides c.keeps-kinds.result c.keeps-kinds.ensures c.if-not-keeps-kinds.true (λ u l. m.1.kinds u (omega (arith, m.0))) in
+    λ m. not_from_Decides c.keeps_kinds.result c.keeps_kinds.ensures c.if-not-keeps_kinds.true (λ u l. m.1.kinds u (omega (arith, m.0))) in
     record {
       decides = not_decided (Carries sense p G H) other;
       reversed = goes_back sense p G H;
@@ -43,20 +43,20 @@ returns-then-not-keeps-kinds g c =
 
 pub returns : goal.returns
 returns g c =
-    let sense = g.Label-as-Label.sense in
+    let sense = g.G.Label.Label.sense in
     let p = c.args.self.now in
     let G = g.G.Network.means c.args.g.now in
     let H = g.H.Network.means c.args.h.now in
     let a : size_of p ≡ G.count = omega arith in
     let b : size_of p ≡ H.count = omega arith in
-    let kinds = c.keeps-kinds.ensures.0 c.if-not-keeps-kinds.false in
+    let kinds = c.keeps_kinds.ensures.0 c.if-not-keeps_kinds.false in
     record {
       decides =
           Decides-like
-          c.keeps-legs.result
+          c.keeps_legs.result
           (λ legs. carries_by sense p G H a b kinds legs)
           (λ m u l v k. m.1.legs u v (omega (arith, m.0)) (omega (arith, m.0)))
-          c.keeps-legs.ensures;
+          c.keeps_legs.ensures;
       reversed = goes_back sense p G H;
       back = maps_back sense G H;
       compose = maps_compose sense G H;

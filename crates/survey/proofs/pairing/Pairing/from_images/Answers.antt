@@ -14,9 +14,14 @@ onward c u h =
     let e : get_or c.loop-u.paired u 0 ≡ get_or c.args.images.now u 0 = c.loop-u.invariant.2 u k in
     rw e (c.loop-u.invariant.3 u k)
 
-pub invariant-of-result : goal.invariant-of-result
-invariant-of-result c =
-    (omega arith, (c.loop-u.invariant.0, (c.loop-u.invariant.1, (onward c, (traced_back (length c.args.images.now) c.loop-u.paired c.loop-u.sources (onward c), tt)))))
+pub invariant_of-result : goal.invariant_of-result
+invariant_of-result c = record {
+  small = omega arith;
+  paired = c.loop-u.invariant.0;
+  traced = c.loop-u.invariant.1;
+  onward = onward c;
+  backward = traced_back (length c.args.images.now) c.loop-u.paired c.loop-u.sources (onward c);
+}
 
 pub returns : goal.returns
 unfolding images_of

@@ -5,13 +5,13 @@ use Rattle.survey.specs.Pairings.{size_of, image_of}
 use Rattle.survey.proofs.Carried.{size_small, listed_size, listed_image, one_fails, all_hold}
 use Rattle.survey.proofs.pairing.Pairing.keeps_legs.Goals as goal
 
-pub overflow-cast-u : goal.overflow-cast-u
-overflow-cast-u g c =
+pub overflow_cast-u : goal.overflow_cast-u
+overflow_cast-u g c =
     let p = c.args.self.now in
     record { fits = omega (arith, size_small p, listed_size p c.images-image-items.result.now c.images-image-items.ensures.list) }
 
-pub returns-then-not-keeps-legs-from : goal.returns-then-not-keeps-legs-from
-returns-then-not-keeps-legs-from g c =
+pub returns-then-not-keeps_legs_from : goal.returns-then-not-keeps_legs_from
+returns-then-not-keeps_legs_from g c =
     let p = c.args.self.now in
     let u = c.loop-u.u in
     let xs = c.images-image-items.result.now in
@@ -19,14 +19,14 @@ returns-then-not-keeps-legs-from g c =
     let at = listed_image p xs u listed c.loop-u-test.true in
     let H = g.H.Network.means c.args.h.now in
     let G = g.G.Network.means c.args.g.now in
-    let sense = g.Label-as-Label.sense in
+    let sense = g.G.Label.Label.sense in
     let Kept : ℕ → Type 0 = λ k. (v : ℕ) → v < size_of p → option_map sense (H.leg (image_of p k) (image_of p v)) ≡ option_map sense (G.leg k v) in
     one_fails
     Kept
     (size_of p)
     u
     (omega (arith, listed_size p xs listed))
-    (λ all. not_from_Decides c.keeps-legs-from.result c.keeps-legs-from.ensures c.if-not-keeps-legs-from.true (λ v l. ap (λ (k : ℕ). option_map sense (H.leg k (image_of p v))) at ∙ all v l))
+    (λ all. not_from_Decides c.keeps_legs_from.result c.keeps_legs_from.ensures c.if-not-keeps_legs_from.true (λ v l. ap (λ (k : ℕ). option_map sense (H.leg k (image_of p v))) at ∙ all v l))
 
 pub loop-u-preserved : goal.loop-u-preserved
 loop-u-preserved g c =
@@ -35,12 +35,12 @@ loop-u-preserved g c =
     let xs = c.images-image-items.result.now in
     let at = listed_image p xs u c.images-image-items.ensures.list c.loop-u-test.true in
     let H = g.H.Network.means c.args.h.now in
-    let sense = g.Label-as-Label.sense in
+    let sense = g.G.Label.Label.sense in
     below_more
     _
     _
     c.loop-u.invariant
-    (λ v l. ap (λ (k : ℕ). option_map sense (H.leg k (image_of p v))) (sym at) ∙ c.keeps-legs-from.ensures.0 c.if-not-keeps-legs-from.false v l)
+    (λ v l. ap (λ (k : ℕ). option_map sense (H.leg k (image_of p v))) (sym at) ∙ c.keeps_legs_from.ensures.0 c.if-not-keeps_legs_from.false v l)
 
 pub returns : goal.returns
 returns g c =
@@ -48,6 +48,6 @@ returns g c =
     let xs = c.images-image-items.result.now in
     let H = g.H.Network.means c.args.h.now in
     let G = g.G.Network.means c.args.g.now in
-    let sense = g.Label-as-Label.sense in
+    let sense = g.G.Label.Label.sense in
     let Kept : ℕ → Type 0 = λ k. (v : ℕ) → v < size_of p → option_map sense (H.leg (image_of p k) (image_of p v)) ≡ option_map sense (G.leg k v) in
     all_hold Kept (size_of p) c.loop-u.u (omega (arith, listed_size p xs c.images-image-items.ensures.list)) c.loop-u.invariant

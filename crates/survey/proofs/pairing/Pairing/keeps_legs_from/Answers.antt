@@ -5,8 +5,8 @@ use Rattle.survey.specs.Pairings.{size_of, image_of}
 use Rattle.survey.proofs.Carried.{size_small, listed_size, listed_image, one_fails, all_hold}
 use Rattle.survey.proofs.pairing.Pairing.keeps_legs_from.Goals as goal
 
-pub overflow-cast-v : goal.overflow-cast-v
-overflow-cast-v g c =
+pub overflow_cast-v : goal.overflow_cast-v
+overflow_cast-v g c =
     let p = c.args.self.now in
     record { fits = omega (arith, size_small p, listed_size p c.images-image-items.result.now c.images-image-items.ensures.list) }
 
@@ -14,7 +14,7 @@ pub returns-then-not-alike : goal.returns-then-not-alike
 returns-then-not-alike g c =
     let p = c.args.self.now in
     let v = c.loop-v.v in
-    let sense = g.Label-as-Label.sense in
+    let sense = g.G.Label.Label.sense in
     let xs = c.images-image-items.result.now in
     let listed = c.images-image-items.ensures.list in
     let at = listed_image p xs v listed c.loop-v-test.true in
@@ -31,7 +31,7 @@ pub loop-v-preserved : goal.loop-v-preserved
 loop-v-preserved g c =
     let p = c.args.self.now in
     let v = c.loop-v.v in
-    let sense = g.Label-as-Label.sense in
+    let sense = g.G.Label.Label.sense in
     let xs = c.images-image-items.result.now in
     let listed = c.images-image-items.ensures.list in
     let at = listed_image p xs v listed c.loop-v-test.true in
@@ -45,7 +45,7 @@ loop-v-preserved g c =
 pub returns : goal.returns
 returns g c =
     let p = c.args.self.now in
-    let sense = g.Label-as-Label.sense in
+    let sense = g.G.Label.Label.sense in
     let xs = c.images-image-items.result.now in
     let legs = (g.H.Network.means c.args.h.now).leg c.args.to in
     let Kept : ℕ → Type 0 = λ k. option_map sense (legs (image_of p k)) ≡ option_map sense ((g.G.Network.means c.args.g.now).leg c.args.u k) in

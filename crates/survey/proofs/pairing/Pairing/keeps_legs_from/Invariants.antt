@@ -6,4 +6,4 @@ use Rattle.survey.proofs.pairing.Pairing.keeps_legs_from.Given as goal
 
 abbrev pub invariant-loop-v : goal.invariant-loop-v
 invariant-loop-v g l =
-    (k : ℕ) → k < l.v → option_map g.Label-as-Label.sense ((g.H.Network.means l.h).leg l.to (image_of l.self k)) ≡ option_map g.Label-as-Label.sense ((g.G.Network.means l.g).leg l.u k)
+    (k : ℕ) → k < l.v → option_map g.G.Label.Label.sense ((g.H.Network.means l.h).leg l.to (image_of l.self k)) ≡ option_map g.G.Label.Label.sense ((g.G.Network.means l.g).leg l.u k)

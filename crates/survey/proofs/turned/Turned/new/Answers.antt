@@ -4,8 +4,8 @@ use Rattle.survey.proofs.turned.Turned.new.Goals as goal
 
 pub returns : goal.returns
 returns g c =
-    let sense = g.Label-as-Label.sense in
-    let turned = g.Label-as-Label.turned in
+    let sense = g.N.Label.Label.sense in
+    let turned = g.N.Label.Label.turned in
     let below = g.N.Network.means c.args.below in
     record {
       holds = refl;

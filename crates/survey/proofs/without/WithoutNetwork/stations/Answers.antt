@@ -3,8 +3,8 @@ use Rattle.survey.specs.Without.{staying, taken_below}
 use Rattle.survey.proofs.TakenOut.{all_told}
 use Rattle.survey.proofs.without.WithoutNetwork.stations.Goals as goal
 
-pub overflow-sub-result : goal.overflow-sub-result
-overflow-sub-result g c = omega (arith, all_told c.args.self.now.mask c.stations-count.result)
+pub overflow_sub-result : goal.overflow_sub-result
+overflow_sub-result g c = omega (arith, all_told c.args.self.now.mask c.stations-count.result)
 
 pub returns : goal.returns
 returns g c =
