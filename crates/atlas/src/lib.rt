@@ -1,4 +1,6 @@
 // The atlas: networks of one form have one number.
+#![tactic(auto)]
+
 ghost use Rattle.atlas.specs.Worked.{Worked};
 
 mod block;

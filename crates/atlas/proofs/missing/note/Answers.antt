@@ -3,12 +3,12 @@ use Rattle.atlas.proofs.Noting.{stays_fits, none_stays, present_stays, added_fit
 use Rattle.atlas.proofs.missing.note.Goals as goal
 use Rattle.atlas.proofs.missing.note.Goals.{then-number-ne0-via-then-number-ne0, then-number-ne0-via-else-number-ne0+then-number-ne0-2}
 
-pub returns-in-default : goal.returns-in-default
-returns-in-default g c =
+pub returns-in_default : goal.returns-in_default
+returns-in_default g c =
     let sense = g.L.Label.sense in
     let l = c.args.legend.now in
     let m = c.args.missing.now in
-    let same = none_stays sense l m c.args.leg c.in-default.is in
+    let same = none_stays sense l m c.args.leg c.in_default.is in
     record { fits = stays_fits sense l m c.args.leg same; labels = λ _. sym same; most = refl }
 
 pub returns-then-number-ne0 : goal.returns-then-number-ne0

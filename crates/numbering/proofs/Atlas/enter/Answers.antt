@@ -42,15 +42,15 @@ returns-in-err-draft g c =
     let done = quiet sense a q.0 c.from-residual.result c.args.place.now c.args.place.now say q.2.same_memory in
     record { carried = carried sense a _ call _ is _ _ _ done; law = keeps_law sense s call _ is _ _ _ done.says }
 
-pub returns-in-default : goal.returns-in-default
+pub returns-in_default : goal.returns-in_default
 unfolding held_of
-returns-in-default g c =
+returns-in_default g c =
     let sense = g.L.Label.sense in
     let n = g.N.Network.means c.args.net.now in
     let a = c.args.self.now in
     let s = held_of a in
     let call = entering n c.args.allowance in
-    let read = subst (λ (o : Option Draft). Reads sense n a.legend c.free-free.result (Ok o)) c.in-default.is c.in-ok-draft.ensures in
+    let read = subst (λ (o : Option Draft). Reads sense n a.legend c.free-free.result (Ok o)) c.in_default.is c.in-ok-draft.ensures in
     let many : s.places < length (full_legend sense n s.legend) = omega (arith, read.1, c.free-free.ensures, labels_length a.legend) in
     let is = enter_full sense s n c.args.allowance n.count read.0 many in
     let done = quiet sense a legend_full (Err LegendFull) c.args.place.now c.args.place.now (record { answer = refl; place = refl }) (λ bytes places. (refl, refl)) in

@@ -33,15 +33,15 @@ returns-in-err-draft g c =
     } in
     record { answer = says sense s call _ q.1 _ _ _ say; law = keeps_law sense s call _ q.1 _ _ _ say }
 
-pub returns-in-default : goal.returns-in-default
+pub returns-in_default : goal.returns-in_default
 unfolding held_of
-returns-in-default g c =
+returns-in_default g c =
     let sense = g.L.Label.sense in
     let n = g.N.Network.means c.args.net.now in
     let a = c.args.self.now in
     let s = held_of a in
     let call = finding n c.args.allowance in
-    let read = subst (λ (o : Option Draft). Reads sense n a.legend 0 (Ok o)) c.in-default.is c.in-ok-draft.ensures in
+    let read = subst (λ (o : Option Draft). Reads sense n a.legend 0 (Ok o)) c.in_default.is c.in-ok-draft.ensures in
     let lacks : length s.legend < length (full_legend sense n s.legend) = omega (arith, read.1) in
     let is = find_settles sense s n c.args.allowance n.count nothing_sought read.0 (sought_lacking sense s n lacks) ∙ settled_unsought sense s n call (full_legend sense n s.legend) in
     let say : Says (unknown 0) _ _ _ = record { answer = refl; place = refl } in

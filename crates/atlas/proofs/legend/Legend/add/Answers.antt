@@ -9,11 +9,11 @@ bounds-self-self g c =
     let l = c.args.self.now in
     omega (arith, labels_length l, room_is l)
 
-pub invariant-of-self : goal.invariant-of-self
-invariant-of-self g c =
+pub invariant_of-self : goal.invariant_of-self
+invariant_of-self g c =
     let l = c.args.self.now in
     let size = length-set l.places.now l.len c.args.label in
-    (omega (arith, labels_length l, room_is l), tt)
+    record { within = omega (arith, labels_length l, room_is l) }
 
 pub returns : goal.returns
 unfolding labels_of room_of

@@ -22,12 +22,12 @@ loop-i-preserved g c =
     lacking_other g.Label.Label.sense (g.N.Network.means c.args.net.now).leg (legs_of m) c.args.label.now i (get_or m.legs i (0, 0)) low (sym (legs_at m i (0, 0) c.loop-i-test.true)) c.in-Some.held (sym c.in-Some.ensures) (not_from_Decides c.same.result c.same.ensures c.if-same.false)
     ∙ c.loop-i.invariant
 
-pub loop-i-preserved-in-default : goal.loop-i-preserved-in-default
-loop-i-preserved-in-default g c =
+pub loop-i-preserved-in_default : goal.loop-i-preserved-in_default
+loop-i-preserved-in_default g c =
     let m = c.args.self.now in
     let i = c.loop-i.i in
     let low : i < length (legs_of m) = omega (arith, legs_length m, c.loop-i-test.true) in
-    lacking_none g.Label.Label.sense (g.N.Network.means c.args.net.now).leg (legs_of m) c.args.label.now i (get_or m.legs i (0, 0)) low (sym (legs_at m i (0, 0) c.loop-i-test.true)) (sym c.in-default.ensures)
+    lacking_none g.Label.Label.sense (g.N.Network.means c.args.net.now).leg (legs_of m) c.args.label.now i (get_or m.legs i (0, 0)) low (sym (legs_at m i (0, 0) c.loop-i-test.true)) (sym c.in_default.ensures)
     ∙ c.loop-i.invariant
 
 pub returns : goal.returns

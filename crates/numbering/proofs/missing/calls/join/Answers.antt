@@ -27,14 +27,14 @@ loop-i-preserved g c =
       joined_behind (labels_of l) (labels_of k) rest all l.places.now x (room_of l) c.add.result whole fits c.add.ensures.place c.add.ensures.labels c.args.legend.now.places.now k.places.now c.add.ensures.others c.loop-i.invariant.2,
     )
 
-pub loop-i-preserved-in-default : goal.loop-i-preserved-in-default
-loop-i-preserved-in-default g c =
+pub loop-i-preserved-in_default : goal.loop-i-preserved-in_default
+loop-i-preserved-in_default g c =
     let n = g.N.Network.means c.args.net.now in
     let m = c.args.missing.now in
     let l = c.loop-i.legend in
     let i = c.loop-i.i in
     let low : i < length (legs_of m) = omega (arith, legs_length m, c.loop-i-test.true) in
-    let none = left_none n.leg (legs_of m) i (get_or m.legs i (0, 0)) low (sym (legs_at m i (0, 0) c.loop-i-test.true)) (sym c.in-default.ensures) in
+    let none = left_none n.leg (legs_of m) i (get_or m.legs i (0, 0)) low (sym (legs_at m i (0, 0) c.loop-i-test.true)) (sym c.in_default.ensures) in
     (ap (λ ys. labels_of l ++ ys) (sym none) ∙ c.loop-i.invariant.0, c.loop-i.invariant.1, c.loop-i.invariant.2)
 
 pub returns : goal.returns

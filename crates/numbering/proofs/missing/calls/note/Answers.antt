@@ -6,14 +6,14 @@ use Rattle.atlas.proofs.Noting.{stays_fits, none_stays, present_stays, added_fit
 use Rattle.atlas.proofs.missing.calls.note.Goals as goal
 use Rattle.atlas.proofs.missing.calls.note.Goals.{then-number-ne0-via-then-number-ne0, then-number-ne0-via-else-number-ne0+then-has}
 
-pub returns-in-default : goal.returns-in-default
-returns-in-default g c =
+pub returns-in_default : goal.returns-in_default
+returns-in_default g c =
     let sense = g.Label.Label.sense in
     let n = g.N.Network.means c.args.net.now in
     let l = c.args.legend.now in
     let m = c.args.missing.now in
     let leg = n.leg c.args.u c.args.v in
-    let same = none_stays sense l n m c.requires leg (sym c.in-default.ensures) in
+    let same = none_stays sense l n m c.requires leg (sym c.in_default.ensures) in
     record { fits = stays_fits sense l n m c.requires leg same; labels = λ _. sym same; most = refl; legs = c.requires }
 
 -- a sense that is among the noted legs' has a number
