@@ -12,7 +12,7 @@ pub const MOST_STATIONS: u16 = 64;
 
 // The lowest of the first stations that has a leg to itself.
 fn lowest_loop<N: Network>(net: &N, count: u16) -> Option<u16>
-    ensures { result ≡ first_loop Label-as-Label.sense (N.Network.means net.now) (range_with_len 0 count) }
+    ensures { result ≡ first_loop N.Label.Label.sense (N.Network.means net.now) (range_with_len 0 count) }
 {
     for u in 0..count {
         if net.leg(u, u).is_some() {
@@ -24,7 +24,7 @@ fn lowest_loop<N: Network>(net: &N, count: u16) -> Option<u16>
 
 // How many stations the network has; refused where it has none, more than 64, or one with a leg to itself.
 pub fn read_stations<N: Network>(net: &N) -> Result<u16, Refusal>
-    ensures { result ≡ stations_read Label-as-Label.sense (N.Network.means net.now) }
+    ensures { result ≡ stations_read N.Label.Label.sense (N.Network.means net.now) }
 {
     let count = net.stations();
     if count == 0 {

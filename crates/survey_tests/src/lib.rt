@@ -1,4 +1,6 @@
 // Worked labels, networks, layers and pairings, run against their answers.
+#![tactic(auto)]
+
 #[cfg(test)]
 mod tests {
     use std::test::Fail;
@@ -159,9 +161,9 @@ mod tests {
         assert_eq!(rt; there.image(0)?, 2);
         assert_eq!(rt; there.image(3), Err(Refusal::NoSuchStation));
         let twice = there.then(&there)?;
-        assert!(rt; twice.images() == [1u8, 2, 0]);
+        assert!(rt; twice.images() == [1u8, 2, 0].as_slice());
         let back = there.reversed();
-        assert!(rt; back.images() == [1u8, 2, 0]);
+        assert!(rt; back.images() == [1u8, 2, 0].as_slice());
         let home = there.then(&back)?;
         assert!(rt; home == Pairing::identity(3)?);
         assert!(rt; there.then(&Pairing::empty()).is_err());

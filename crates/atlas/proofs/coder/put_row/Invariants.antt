@@ -7,4 +7,4 @@ use Rattle.atlas.proofs.coder.put_row.Given as goal
 abbrev pub invariant-loop-v : goal.invariant-loop-v
 invariant-loop-v g l =
     (length l.codes ≡ 4096)
-    × RowWritten l.u l.v (leg_codes g.Label.Label.sense (all_labels l.legend l.missing) (g.N.Network.means l.net)) l.initial.codes l.codes
+    × RowWritten l.u l.v (leg_codes g.N.Label.Label.sense (all_labels l.legend l.missing) (g.N.Network.means l.net)) l.initial.codes l.codes

@@ -7,4 +7,4 @@ use Rattle.atlas.proofs.coder.put_rows.Given as goal
 abbrev pub invariant-loop-u : goal.invariant-loop-u
 invariant-loop-u g l =
     (length l.codes ≡ 4096)
-    × RowsWritten l.u l.count (leg_codes g.Label.Label.sense (all_labels l.legend l.missing) (g.N.Network.means l.net)) l.initial.codes l.codes
+    × RowsWritten l.u l.count (leg_codes g.N.Label.Label.sense (all_labels l.legend l.missing) (g.N.Network.means l.net)) l.initial.codes l.codes

@@ -9,14 +9,14 @@ use Rattle.atlas.proofs.missing.note_all.Goals as goal
 
 pub loop-u-init : goal.loop-u-init
 loop-u-init g c =
-    let sense = g.Label.Label.sense in
+    let sense = g.N.Label.Label.sense in
     let net = g.N.Network.means c.args.net.now in
     let ls = all_labels c.args.legend.now c.args.missing.now in
     (ap (λ (k : ℕ). noted_rows sense net.leg (range_with_len 0 k) (range_with_len 0 c.args.count) ls) {x = c.args.count - 0} {y = c.args.count} (omega arith), refl)
 
 pub returns-then-not-note_row : goal.returns-then-not-note_row
 returns-then-not-note_row g c =
-    let sense = g.Label.Label.sense in
+    let sense = g.N.Label.Label.sense in
     let net = g.N.Network.means c.args.net.now in
     let l = c.args.legend.now in
     let m = c.loop-u.missing in
@@ -32,7 +32,7 @@ returns-then-not-note_row g c =
 
 pub loop-u-preserved : goal.loop-u-preserved
 loop-u-preserved g c =
-    let sense = g.Label.Label.sense in
+    let sense = g.N.Label.Label.sense in
     let net = g.N.Network.means c.args.net.now in
     let l = c.args.legend.now in
     let m = c.loop-u.missing in
@@ -46,7 +46,7 @@ loop-u-preserved g c =
 
 pub returns : goal.returns
 returns g c =
-    let sense = g.Label.Label.sense in
+    let sense = g.N.Label.Label.sense in
     let net = g.N.Network.means c.args.net.now in
     let l = c.args.legend.now in
     let m = c.loop-u.missing in

@@ -7,5 +7,5 @@ use Rattle.atlas.proofs.missing.note_all.Given as goal
 
 abbrev pub invariant-loop-u : goal.invariant-loop-u
 invariant-loop-u g l =
-    (noted_rows g.Label.Label.sense (g.N.Network.means l.net).leg (range_with_len l.u (l.count - l.u)) (range_with_len 0 l.count) (all_labels l.legend l.missing) ≡ noted_rows g.Label.Label.sense (g.N.Network.means l.net).leg (range_with_len 0 l.count) (range_with_len 0 l.count) (all_labels l.legend l.initial.missing))
+    (noted_rows g.N.Label.Label.sense (g.N.Network.means l.net).leg (range_with_len l.u (l.count - l.u)) (range_with_len 0 l.count) (all_labels l.legend l.missing) ≡ noted_rows g.N.Label.Label.sense (g.N.Network.means l.net).leg (range_with_len 0 l.count) (range_with_len 0 l.count) (all_labels l.legend l.initial.missing))
     × (most_labels l.legend l.missing ≡ most_labels l.legend l.initial.missing)

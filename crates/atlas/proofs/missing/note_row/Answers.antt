@@ -9,14 +9,14 @@ use Rattle.atlas.proofs.missing.note_row.Goals as goal
 
 pub loop-v-init : goal.loop-v-init
 loop-v-init g c =
-    let sense = g.Label.Label.sense in
+    let sense = g.N.Label.Label.sense in
     let net = g.N.Network.means c.args.net.now in
     let ls = all_labels c.args.legend.now c.args.missing.now in
     (ap (λ (k : ℕ). noted_row sense (net.leg c.args.u) (range_with_len 0 k) ls) {x = c.args.count - 0} {y = c.args.count} (omega arith), refl)
 
 pub returns-then-not-note : goal.returns-then-not-note
 returns-then-not-note g c =
-    let sense = g.Label.Label.sense in
+    let sense = g.N.Label.Label.sense in
     let net = g.N.Network.means c.args.net.now in
     let l = c.args.legend.now in
     let m = c.loop-v.missing in
@@ -32,7 +32,7 @@ returns-then-not-note g c =
 
 pub loop-v-preserved : goal.loop-v-preserved
 loop-v-preserved g c =
-    let sense = g.Label.Label.sense in
+    let sense = g.N.Label.Label.sense in
     let net = g.N.Network.means c.args.net.now in
     let l = c.args.legend.now in
     let m = c.loop-v.missing in
@@ -46,7 +46,7 @@ loop-v-preserved g c =
 
 pub returns : goal.returns
 returns g c =
-    let sense = g.Label.Label.sense in
+    let sense = g.N.Label.Label.sense in
     let net = g.N.Network.means c.args.net.now in
     let l = c.args.legend.now in
     let m = c.loop-v.missing in

@@ -6,4 +6,4 @@ use Rattle.atlas.proofs.reader.lowest_loop.Given as goal
 
 abbrev pub invariant-loop-u : goal.invariant-loop-u
 invariant-loop-u g l =
-    first_loop g.Label.Label.sense (g.N.Network.means l.net) (range_with_len l.u (l.count - l.u)) ≡ first_loop g.Label.Label.sense (g.N.Network.means l.net) (range_with_len 0 l.count)
+    first_loop g.N.Label.Label.sense (g.N.Network.means l.net) (range_with_len l.u (l.count - l.u)) ≡ first_loop g.N.Label.Label.sense (g.N.Network.means l.net) (range_with_len 0 l.count)

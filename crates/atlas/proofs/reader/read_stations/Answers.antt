@@ -8,15 +8,15 @@ use Rattle.atlas.proofs.reader.read_stations.Goals as goal
 
 pub returns-then-count-eq0 : goal.returns-then-count-eq0
 returns-then-count-eq0 g c =
-    sym (read_none g.Label.Label.sense (g.N.Network.means c.args.net.now) (sym c.stations-count.ensures ∙ c.if-count-eq0.true))
+    sym (read_none g.N.Label.Label.sense (g.N.Network.means c.args.net.now) (sym c.stations-count.ensures ∙ c.if-count-eq0.true))
 
 pub returns-then-count-gt-MOST_STATIONS : goal.returns-then-count-gt-MOST_STATIONS
 returns-then-count-gt-MOST_STATIONS g c =
-    sym (read_many g.Label.Label.sense (g.N.Network.means c.args.net.now) (omega (arith, c.stations-count.ensures)))
+    sym (read_many g.N.Label.Label.sense (g.N.Network.means c.args.net.now) (omega (arith, c.stations-count.ensures)))
 
 pub overflow_cast-result : goal.overflow_cast-result
 overflow_cast-result g c =
-    let low = loop_below g.Label.Label.sense (g.N.Network.means c.args.net.now) 0 c.stations-count.result c.in-Some.u (sym c.in-Some.ensures) in
+    let low = loop_below g.N.Label.Label.sense (g.N.Network.means c.args.net.now) 0 c.stations-count.result c.in-Some.u (sym c.in-Some.ensures) in
     record { fits = omega arith }
 
 pub returns-in-Some : goal.returns-in-Some
@@ -24,12 +24,12 @@ returns-in-Some g c =
     let n = g.N.Network.means c.args.net.now in
     sym
     (read_loop
-    g.Label.Label.sense
+    g.N.Label.Label.sense
     n
     c.in-Some.u
     (omega (arith, c.stations-count.ensures))
     (omega (arith, c.stations-count.ensures))
-    (ap (λ (k : ℕ). first_loop g.Label.Label.sense n (range_with_len 0 k)) (sym c.stations-count.ensures) ∙ sym c.in-Some.ensures))
+    (ap (λ (k : ℕ). first_loop g.N.Label.Label.sense n (range_with_len 0 k)) (sym c.stations-count.ensures) ∙ sym c.in-Some.ensures))
 
 pub returns-in-None : goal.returns-in-None
 returns-in-None g c =
@@ -37,8 +37,8 @@ returns-in-None g c =
     ap {B = Result ℕ Refusal} Ok c.stations-count.ensures
     ∙ sym
     (read_whole
-    g.Label.Label.sense
+    g.N.Label.Label.sense
     n
     (omega (arith, c.stations-count.ensures))
     (omega (arith, c.stations-count.ensures))
-    (ap (λ (k : ℕ). first_loop g.Label.Label.sense n (range_with_len 0 k)) (sym c.stations-count.ensures) ∙ sym c.in-None.ensures))
+    (ap (λ (k : ℕ). first_loop g.N.Label.Label.sense n (range_with_len 0 k)) (sym c.stations-count.ensures) ∙ sym c.in-None.ensures))

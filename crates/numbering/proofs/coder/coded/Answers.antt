@@ -10,7 +10,7 @@ use Rattle.atlas.proofs.coder.coded.Goals as goal
 
 pub unreachable-requires : goal.unreachable-requires
 unreachable-requires g c =
-    let sense = g.Label.Label.sense in
+    let sense = g.N.Label.Label.sense in
     let n = g.N.Network.means c.args.net.now in
     let ls = labels_of c.args.legend.now in
     let bounds = g.N.Network.bounded c.args.net.now in
@@ -24,7 +24,7 @@ unreachable-requires g c =
 
 pub returns : goal.returns
 returns g c =
-    let sense = g.Label.Label.sense in
+    let sense = g.N.Label.Label.sense in
     let n = g.N.Network.means c.args.net.now in
     let ls = labels_of c.args.legend.now in
     let bounds = g.N.Network.bounded c.args.net.now in

@@ -15,7 +15,7 @@ note_all-requires g c =
 -- noting the legs of as many stations as there are, from the labels of the legend on, gives the full legend
 pub returns-then-note_all : goal.returns-then-note_all
 returns-then-note_all g c =
-    let sense = g.Label.Label.sense in
+    let sense = g.N.Label.Label.sense in
     let n = g.N.Network.means c.args.net.now in
     let l = c.args.legend.now in
     let m = c.none_missing.result in
@@ -35,7 +35,7 @@ returns-then-note_all g c =
 
 pub returns-else-note_all : goal.returns-else-note_all
 returns-else-note_all g c =
-    let sense = g.Label.Label.sense in
+    let sense = g.N.Label.Label.sense in
     let n = g.N.Network.means c.args.net.now in
     let l = c.args.legend.now in
     let m = c.none_missing.result in

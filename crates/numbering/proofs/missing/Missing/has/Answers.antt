@@ -11,7 +11,7 @@ returns-then-same g c =
     let m = c.args.self.now in
     let i = c.loop-i.i in
     let low : i < length (legs_of m) = omega (arith, legs_length m, c.loop-i-test.true) in
-    let here = lacking_here g.Label.Label.sense (g.N.Network.means c.args.net.now).leg (legs_of m) c.args.label.now i (get_or m.legs i (0, 0)) low (sym (legs_at m i (0, 0) c.loop-i-test.true)) c.in-Some.held (sym c.in-Some.ensures) (c.same.ensures.0 c.if-same.true) in
+    let here = lacking_here g.N.Label.Label.sense (g.N.Network.means c.args.net.now).leg (legs_of m) c.args.label.now i (get_or m.legs i (0, 0)) low (sym (legs_at m i (0, 0) c.loop-i-test.true)) c.in-Some.held (sym c.in-Some.ensures) (c.same.ensures.0 c.if-same.true) in
     sym here ∙ c.loop-i.invariant
 
 pub loop-i-preserved : goal.loop-i-preserved
@@ -19,7 +19,7 @@ loop-i-preserved g c =
     let m = c.args.self.now in
     let i = c.loop-i.i in
     let low : i < length (legs_of m) = omega (arith, legs_length m, c.loop-i-test.true) in
-    lacking_other g.Label.Label.sense (g.N.Network.means c.args.net.now).leg (legs_of m) c.args.label.now i (get_or m.legs i (0, 0)) low (sym (legs_at m i (0, 0) c.loop-i-test.true)) c.in-Some.held (sym c.in-Some.ensures) (not_from_Decides c.same.result c.same.ensures c.if-same.false)
+    lacking_other g.N.Label.Label.sense (g.N.Network.means c.args.net.now).leg (legs_of m) c.args.label.now i (get_or m.legs i (0, 0)) low (sym (legs_at m i (0, 0) c.loop-i-test.true)) c.in-Some.held (sym c.in-Some.ensures) (not_from_Decides c.same.result c.same.ensures c.if-same.false)
     ∙ c.loop-i.invariant
 
 pub loop-i-preserved-in_default : goal.loop-i-preserved-in_default
@@ -27,12 +27,12 @@ loop-i-preserved-in_default g c =
     let m = c.args.self.now in
     let i = c.loop-i.i in
     let low : i < length (legs_of m) = omega (arith, legs_length m, c.loop-i-test.true) in
-    lacking_none g.Label.Label.sense (g.N.Network.means c.args.net.now).leg (legs_of m) c.args.label.now i (get_or m.legs i (0, 0)) low (sym (legs_at m i (0, 0) c.loop-i-test.true)) (sym c.in_default.ensures)
+    lacking_none g.N.Label.Label.sense (g.N.Network.means c.args.net.now).leg (legs_of m) c.args.label.now i (get_or m.legs i (0, 0)) low (sym (legs_at m i (0, 0) c.loop-i-test.true)) (sym c.in_default.ensures)
     ∙ c.loop-i.invariant
 
 pub returns : goal.returns
 unfolding missing_of
 returns g c =
     let m = c.args.self.now in
-    sym (lacking_all g.Label.Label.sense (g.N.Network.means c.args.net.now).leg (legs_of m) c.args.label.now c.loop-i.i (omega (arith, legs_length m)))
+    sym (lacking_all g.N.Label.Label.sense (g.N.Network.means c.args.net.now).leg (legs_of m) c.args.label.now c.loop-i.i (omega (arith, legs_length m)))
     ∙ c.loop-i.invariant

@@ -6,5 +6,5 @@ use Rattle.atlas.proofs.missing.Missing.has.Given as goal
 
 abbrev pub invariant-loop-i : goal.invariant-loop-i
 invariant-loop-i g l =
-    lacking g.Label.Label.sense (g.N.Network.means l.net).leg (legs_of l.self) l.label (drop l.i (legs_of l.self))
-    ≡ lacking g.Label.Label.sense (g.N.Network.means l.net).leg (legs_of l.self) l.label (legs_of l.self)
+    lacking g.N.Label.Label.sense (g.N.Network.means l.net).leg (legs_of l.self) l.label (drop l.i (legs_of l.self))
+    ≡ lacking g.N.Label.Label.sense (g.N.Network.means l.net).leg (legs_of l.self) l.label (legs_of l.self)

@@ -8,7 +8,7 @@ use Rattle.atlas.proofs.missing.calls.note.Goals.{then-number-ne0-via-then-numbe
 
 pub returns-in_default : goal.returns-in_default
 returns-in_default g c =
-    let sense = g.Label.Label.sense in
+    let sense = g.N.Label.Label.sense in
     let n = g.N.Network.means c.args.net.now in
     let l = c.args.legend.now in
     let m = c.args.missing.now in
@@ -26,7 +26,7 @@ unfound r k t e = grind (arith, nat_tests)
 
 pub returns-then-number-ne0 : goal.returns-then-number-ne0
 returns-then-number-ne0 g c =
-    let sense = g.Label.Label.sense in
+    let sense = g.N.Label.Label.sense in
     let n = g.N.Network.means c.args.net.now in
     let l = c.args.legend.now in
     let m = c.args.missing.now in
@@ -42,7 +42,7 @@ returns-then-number-ne0 g c =
 
 pub returns : goal.returns
 returns g c =
-    let sense = g.Label.Label.sense in
+    let sense = g.N.Label.Label.sense in
     let n = g.N.Network.means c.args.net.now in
     let l = c.args.legend.now in
     let m = c.args.missing.now in

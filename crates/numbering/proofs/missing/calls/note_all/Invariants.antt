@@ -8,6 +8,6 @@ use Rattle.atlas.proofs.missing.calls.note_all.Given as goal
 abbrev pub invariant-loop-u : goal.invariant-loop-u
 invariant-loop-u g l =
     let n = g.N.Network.means l.net in
-    (noted_rows g.Label.Label.sense n.leg (range_with_len l.u (l.count - l.u)) (range_with_len 0 l.count) (all_labels l.legend n l.missing) ≡ noted_rows g.Label.Label.sense n.leg (range_with_len 0 l.count) (range_with_len 0 l.count) (all_labels l.legend n l.initial.missing))
+    (noted_rows g.N.Label.Label.sense n.leg (range_with_len l.u (l.count - l.u)) (range_with_len 0 l.count) (all_labels l.legend n l.missing) ≡ noted_rows g.N.Label.Label.sense n.leg (range_with_len 0 l.count) (range_with_len 0 l.count) (all_labels l.legend n l.initial.missing))
     × (l.missing.most ≡ l.initial.missing.most)
     × Noted n l.missing

@@ -8,6 +8,6 @@ use Rattle.atlas.proofs.missing.calls.note_row.Given as goal
 abbrev pub invariant-loop-v : goal.invariant-loop-v
 invariant-loop-v g l =
     let n = g.N.Network.means l.net in
-    (noted_row g.Label.Label.sense (n.leg l.u) (range_with_len l.v (l.count - l.v)) (all_labels l.legend n l.missing) ≡ noted_row g.Label.Label.sense (n.leg l.u) (range_with_len 0 l.count) (all_labels l.legend n l.initial.missing))
+    (noted_row g.N.Label.Label.sense (n.leg l.u) (range_with_len l.v (l.count - l.v)) (all_labels l.legend n l.missing) ≡ noted_row g.N.Label.Label.sense (n.leg l.u) (range_with_len 0 l.count) (all_labels l.legend n l.initial.missing))
     × (l.missing.most ≡ l.initial.missing.most)
     × Noted n l.missing
