@@ -1,5 +1,7 @@
 // Two parties surveyed one series of a cave and numbered its stations differently. This program reads both notebooks,
 // prints the networks, and shows how the stations pair.
+#![tactic(auto)]
+
 mod matching;
 mod notebook;
 mod report;

@@ -1,5 +1,7 @@
 // Works searches and classes that an independent model worked too, and prints an answer a line: the file `stdout`
 // beside this crate has the model's answers.
+#![tactic(auto)]
+
 mod line;
 
 use line::{Fault, Task};
