@@ -1,10 +1,11 @@
 -- The coded network that stands in arrays, where the kinds and codes of a network were written into zeros.
-use Rattle.std.proofs.Common.{◌≡◌, ℕ, zero, suc, ◌+◌, ◌*◌, ◌<◌, ◌≤◌, Bool, true, false, cond, ◌&&◌, ltb, ◌⊎◌, List, get_or, replicate, ℤ, Some, None, Option, sym, refl, ap, ◌∙◌, inl, inr, arith, le-ltb, lt-ltb}
+use Rattle.std.proofs.Common.{◌≡◌, ℕ, zero, suc, ◌+◌, ◌*◌, ◌<◌, ◌≤◌, Bool, true, false, cond, ◌&&◌, ltb, ◌⊎◌, List, get_or, replicate, ℤ, Some, None, Option, sym, refl, ap, ◌∙◌, inl, inr, arith, le-ltb, lt-ltb, le-leb}
 use lib.ListN.{length-replicate, get_or-replicate}
 use Rattle.std.specs.List.{range_with_len}
 use Rattle.std.specs.Option.{option_map}
 use Rattle.std.proofs.lemmas.List.{get_or_past}
 use Rattle.std.proofs.lemmas.Bool.{cases_lt}
+use Rattle.atlas.specs.Blocks.{no_form}
 use Rattle.atlas.specs.Calls.{first_loop}
 use Rattle.atlas.specs.Legends.{code_of, coded_by}
 use Rattle.atlas.specs.Tables.{leg_codes, Listed, RowsWritten}
@@ -13,6 +14,8 @@ use Rattle.atlas.proofs.Membership.{in_counting}
 use Rattle.search.proofs.Networked.{few_loopless, loopless_more}
 use Rattle.search.specs.Arrays.{in_arrays, loopless_below, searchable}
 use Rattle.search.specs.Coded.{Coded}
+use Rattle.search.specs.Meanings.{coded}
+use Rattle.search.specs.declared.coded.CodedNetwork.{CodedNetwork}
 use Rattle.survey.specs.Networks.{Net, Bounded}
 
 -- zeros hold 0 at each place, and past them
@@ -94,3 +97,19 @@ module _ {X : Type 0} (means : X → Coded) (g h : Coded) (same : g ≡ h) (s : 
   -- there is something
   pub there_some : option_map means None ≡ cond (searchable g) (Some g) None → ⊥
   there_some e = let r = there None e in let z : ◌≡◌ {A = ℕ} 0 1 = cc in omega arith
+
+-- arrays of zeros hold the form of no stations
+pub no_arrays : in_arrays 0 (replicate 64 0) (replicate 4096 0) ≡ no_form
+no_arrays = λ i. record { count = 0; kind = λ u. zeros_at 64 u i; code = λ u v. (ap (λ (x : ℕ). cond (ltb v 64) x 0) (zeros_at 4096 (64 * u + v)) ∙ same (ltb v 64)) i }
+  where
+    same : (b : Bool) → ◌≡◌ {A = ℕ} (cond b 0 0) 0
+    same true = refl
+    same false = refl
+
+-- what a network of the code stands for can be searched
+pub code_searchable : (n : CodedNetwork) → searchable (coded n) ≡ true
+unfolding coded
+code_searchable n = go (le-leb n.count 64 n.small) n.loopless
+  where
+    go : {a b : Bool} → a ≡ true → b ≡ true → (a && b) ≡ true
+    go {a} {b} p q = ap (λ (x : Bool). x && b) p ∙ q

@@ -17,3 +17,8 @@ labels_at l i d h = get_or-take l.len l.places.now i d h
 pub room_is : {L : Type 0} (l : Legend L) → room_of l ≡ min (length l.places.now) 250
 unfolding room_of
 room_is l = refl
+
+-- the labels of a legend are the first places
+pub labels_first : {L : Type 0} (l : Legend L) → labels_of l ≡ take (length (labels_of l)) l.places.now
+unfolding labels_of
+labels_first l = ap (λ (n : ℕ). take n l.places.now) (sym (length-take l.len l.places.now ∙ (let w = l.within in omega arith)))

@@ -8,12 +8,16 @@ pub mod Loops
 pub mod Reading
 pub mod Stepwise
 pub mod Noting
+pub mod NotingLegs
+pub mod Joining
 -- coding a network
 pub mod LegCodes
 pub mod InArrays
 -- blocks of lent bytes
 pub mod InBlocks
 pub mod KeptBlocks
+-- what an atlas holds
+pub mod Holding
 -- the law over any list of calls
 pub mod Mapping
 pub mod Codings
@@ -24,4 +28,12 @@ pub mod CallCases
 pub mod AfterCalls
 pub mod Invariant
 pub mod NextCall
-pub mod Season
+pub mod AnyCalls
+-- the calls
+pub mod FormByForm
+pub mod Answered
+pub mod LawfulCalls
+pub mod ClassBits
+-- a season
+pub mod AnswerCases
+pub mod Requests

@@ -79,3 +79,8 @@ module _ {L : Type 0} (sense : L → List ℤ) (l m : Legend L) where
         ap (λ (xs : List L). labels_of l ++ xs) (q ∙ ap (λ (s : Bool). cond s (labels_of m ++ x ∷ []) (labels_of m)) t)
         ∙ sym (append_assoc (labels_of l) (labels_of m) (x ∷ []))
         ∙ sym joined
+
+-- with no missing labels there are those of the legend
+pub none_behind : {L : Type 0} (l m : Legend L) → labels_of m ≡ [] → all_labels l m ≡ labels_of l
+unfolding all_labels
+none_behind {L} l m e = ap (λ (xs : List L). labels_of l ++ xs) e ∙ append-nil (labels_of l)

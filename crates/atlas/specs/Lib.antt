@@ -1,9 +1,16 @@
 pub mod Senses
 pub mod Legends
 pub mod Lent
+pub mod FirstLegs
 pub mod Calls
 pub mod Readings
 pub mod Tables
 pub mod Blocks
+pub mod Holding
+pub mod Seeking
 pub mod Law
+pub mod Drafts
+pub mod Answering
+pub mod Classing
+pub mod Seasons
 pub mod Worked

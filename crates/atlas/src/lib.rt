@@ -3,12 +3,35 @@
 
 ghost use Rattle.atlas.specs.Worked.{Worked};
 
+use legend::Legend;
+
+pub mod answer;
 mod block;
+pub mod classing;
 mod coder;
+mod coding;
+mod draft;
+pub mod entering;
+pub mod finding;
+mod first_legs;
 pub mod law;
 pub mod legend;
 mod missing;
+pub mod opening;
 pub mod reader;
+pub mod request;
+pub mod season;
+mod seeking;
+mod storing;
+
+// The forms that were numbered, in the first blocks of lent bytes, and the legend that they are coded by. A count beyond
+// the blocks counts as all of them, and a block that cannot be searched as a form of no stations.
+#[derive(Drop)]
+pub struct Atlas<'a, L> {
+    bytes: &'a mut [u8],
+    legend: Legend<'a, L>,
+    forms: usize,
+}
 
 // Networks that can be worked by hand come out as the rules say.
 pub fn worked() -> u8

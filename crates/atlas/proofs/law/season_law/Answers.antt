@@ -1,4 +1,4 @@
-use Rattle.atlas.proofs.Season.{season_law}
+use Rattle.atlas.proofs.AnyCalls.{season_law}
 use Rattle.atlas.proofs.law.season_law.Goals as goal
 
 pub returns : goal.returns

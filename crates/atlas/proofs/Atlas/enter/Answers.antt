@@ -1,0 +1,164 @@
+use Rattle.std.proofs.Common.{◌≡◌, ℕ, ◌+◌, ◌<◌, ◌≤◌, List, length, Some, None, Ok, Err, Option, Result, sym, refl, ap, ◌∙◌, subst, arith}
+use Rattle.std.specs.List.{range_with_len}
+use Rattle.std.proofs.lemmas.Result.{err_from_is_err_and}
+use Rattle.search.specs.Coded.{Coded}
+use Rattle.search.specs.Meanings.{coded}
+use Rattle.atlas.specs.Answering.{Says, Carried, entering, unmet}
+use Rattle.atlas.specs.Calls.{Held, Reply, After, Sought, first_loop, unchanged, sought_in, nothing_sought, settled}
+use Rattle.atlas.specs.Calls.Reply.{known, spent, legend_full}
+use Rattle.atlas.specs.Drafts.{Drafted, Reads}
+use Rattle.atlas.specs.Holding.{held_of}
+use Rattle.atlas.specs.Legends.{full_legend, coded_by}
+use Rattle.atlas.specs.Lent.{labels_of, room_of}
+use Rattle.atlas.specs.FirstLegs.{legs_of, joined_labels}
+use Rattle.atlas.specs.declared.answer.Answer.{Answer}
+use Rattle.atlas.specs.declared.draft.Draft.{Draft}
+use Rattle.survey.specs.declared.pairing.Pairing.{Pairing}
+use Rattle.survey.specs.declared.refusal.Refusal.{Refusal}
+use Rattle.survey.specs.declared.refusal.Refusal.TheVariants.{LegendFull}
+use Rattle.atlas.proofs.Answered.{refused_read, sought_lacking, sought_known, settled_unsought, settled_found, settled_nowhere, settled_spent, enter_settles, enter_full}
+use Rattle.atlas.proofs.LawfulCalls.{keeps_law, carried, quiet}
+use Rattle.atlas.proofs.Lending.{labels_length, room_is}
+use Rattle.atlas.proofs.NotingLegs.{all_length}
+use Rattle.atlas.proofs.Reading.{read_ok}
+use Rattle.atlas.proofs.Atlas.enter.Goals as goal
+
+pub read-requires : goal.read-requires
+read-requires g c = omega (arith, c.free-free.ensures, room_is c.args.self.now.legend)
+
+pub returns-in_err-draft : goal.returns-in_err-draft
+returns-in_err-draft g c =
+    let sense = g.L.Label.sense in
+    let n = g.N.Network.means c.args.net.now in
+    let a = c.args.self.now in
+    let s = held_of a in
+    let call = entering n c.args.allowance in
+    let p = err_from_is_err_and c.from_residual.result c.from_residual.ensures.1 in
+    let q = refused_read sense s call c.in_err-draft.field-0.0 c.in_err-draft.ensures in
+    let is = q.1 in
+    let say : Says q.0 c.from_residual.result c.args.place.now c.args.place.now = record {
+      answer = p.1 ∙ ap {B = Result Answer Refusal} Err p.2 ∙ q.2.tells;
+      place = q.2.same_place c.args.place.now;
+    } in
+    let done = quiet sense a q.0 c.from_residual.result c.args.place.now c.args.place.now say q.2.same_memory in
+    record { carried = carried sense a _ call _ is _ _ _ done; law = keeps_law sense s call _ is _ _ _ done.says }
+
+pub returns-in_default : goal.returns-in_default
+unfolding held_of
+returns-in_default g c =
+    let sense = g.L.Label.sense in
+    let n = g.N.Network.means c.args.net.now in
+    let a = c.args.self.now in
+    let s = held_of a in
+    let call = entering n c.args.allowance in
+    let read = subst (λ (o : Option Draft). Reads sense n a.legend c.free-free.result (Ok o)) c.in_default.is c.in_ok-draft.ensures in
+    let many : s.places < length (full_legend sense n s.legend) = omega (arith, read.1, c.free-free.ensures, labels_length a.legend, room_is a.legend, a.legend.within) in
+    let is = enter_full sense s n c.args.allowance n.count read.0 many in
+    let done = quiet sense a legend_full (Err LegendFull) c.args.place.now c.args.place.now (record { answer = refl; place = refl }) (λ bytes places. (refl, refl)) in
+    record { carried = carried sense a _ call _ is _ _ _ done; law = keeps_law sense s call _ is _ _ _ done.says }
+
+pub number-requires : goal.number-requires
+unfolding held_of
+number-requires g c =
+    let sense = g.L.Label.sense in
+    let n = g.N.Network.means c.args.net.now in
+    let a = c.args.self.now in
+    let s = held_of a in
+    let call = entering n c.args.allowance in
+    let read = subst (λ (o : Option Draft). Reads sense n a.legend c.free-free.result (Ok o)) c.in-Some.is c.in_ok-draft.ensures in
+    let placed : length (full_legend sense n s.legend) ≤ s.places = omega (arith, read.1, c.free-free.ensures, labels_length a.legend, room_is a.legend, a.legend.within) in
+    record { drafted = read.0; places = placed }
+
+pub returns-then-len-ne0 : goal.returns-then-len-ne0
+unfolding held_of unmet
+returns-then-len-ne0 g c =
+    let sense = g.L.Label.sense in
+    let n = g.N.Network.means c.args.net.now in
+    let a = c.args.self.now in
+    let s = held_of a in
+    let call = entering n c.args.allowance in
+    let read = subst (λ (o : Option Draft). Reads sense n a.legend c.free-free.result (Ok o)) c.in-Some.is c.in_ok-draft.ensures in
+    let placed : length (full_legend sense n s.legend) ≤ s.places = omega (arith, read.1, c.free-free.ensures, labels_length a.legend, room_is a.legend, a.legend.within) in
+    let lacks : length s.legend < length (full_legend sense n s.legend) = omega (arith, ap length read.0.labels, all_length a.legend n c.in-Some.draft.missing read.0.noted, c.len.ensures, c.if-len-ne0.true) in
+    let is = enter_settles sense s n c.args.allowance n.count nothing_sought read.0.read placed (sought_lacking sense s n lacks) ∙ settled_unsought sense s n call (full_legend sense n s.legend) in
+    let done = c.number.ensures c.args.place.now in
+    record { carried = carried sense a _ call _ is _ _ _ done; law = keeps_law sense s call _ is _ _ _ done.says }
+
+pub coded-network-requires : goal.coded-network-requires
+coded-network-requires g c =
+    let sense = g.L.Label.sense in
+    let n = g.N.Network.means c.args.net.now in
+    let a = c.args.self.now in
+    let read = subst (λ (o : Option Draft). Reads sense n a.legend c.free-free.result (Ok o)) c.in-Some.is c.in_ok-draft.ensures in
+    let can = (read_ok sense n n.count (sym read.0.read)).1 in
+    record {
+      stations = read.0.stations;
+      few = omega (arith, read.0.stations, can.few);
+      loopless = ap (λ (k : ℕ). first_loop sense n (range_with_len 0 k)) read.0.stations ∙ can.loopless;
+    }
+
+pub number-requires-in-Nowhere : goal.number-requires-in-Nowhere
+unfolding held_of
+number-requires-in-Nowhere g c =
+    let sense = g.L.Label.sense in
+    let n = g.N.Network.means c.args.net.now in
+    let a = c.args.self.now in
+    let s = held_of a in
+    let call = entering n c.args.allowance in
+    let read = subst (λ (o : Option Draft). Reads sense n a.legend c.free-free.result (Ok o)) c.in-Some.is c.in_ok-draft.ensures in
+    let placed : length (full_legend sense n s.legend) ≤ s.places = omega (arith, read.1, c.free-free.ensures, labels_length a.legend, room_is a.legend, a.legend.within) in
+    record { drafted = read.0; places = placed }
+
+pub returns-in-Found : goal.returns-in-Found
+unfolding held_of
+returns-in-Found g c =
+    let sense = g.L.Label.sense in
+    let n = g.N.Network.means c.args.net.now in
+    let a = c.args.self.now in
+    let s = held_of a in
+    let call = entering n c.args.allowance in
+    let read = subst (λ (o : Option Draft). Reads sense n a.legend c.free-free.result (Ok o)) c.in-Some.is c.in_ok-draft.ensures in
+    let placed : length (full_legend sense n s.legend) ≤ s.places = omega (arith, read.1, c.free-free.ensures, labels_length a.legend, room_is a.legend, a.legend.within) in
+    let o = sought_in (coded c.coded-network.result) 1 s.forms in
+    let few : length (full_legend sense n s.legend) ≤ length s.legend = omega (arith, ap length read.0.labels, all_length a.legend n c.in-Some.draft.missing read.0.noted, c.len.ensures, c.if-len-ne0.false) in
+    let searched = sought_known sense s n few ∙ ap (λ (h : Coded). sought_in h 1 s.forms) (sym c.coded-network.ensures) in
+    let settles = enter_settles sense s n c.args.allowance n.count o read.0.read placed searched in
+    let is = settles ∙ settled_found sense s n call (full_legend sense n s.legend) o c.in-Found.form c.in-Found.trials c.in-Found.ensures.answer in
+    let done = quiet sense a (known c.in-Found.form c.in-Found.trials _) _ c.args.place.now c.seek.new.place (record { answer = refl; place = c.in-Found.ensures.placed }) (λ bytes places. (refl, refl)) in
+    record { carried = carried sense a _ call _ is _ _ _ done; law = keeps_law sense s call _ is _ _ _ done.says }
+
+pub returns-in-Nowhere : goal.returns-in-Nowhere
+unfolding held_of unmet
+returns-in-Nowhere g c =
+    let sense = g.L.Label.sense in
+    let n = g.N.Network.means c.args.net.now in
+    let a = c.args.self.now in
+    let s = held_of a in
+    let call = entering n c.args.allowance in
+    let read = subst (λ (o : Option Draft). Reads sense n a.legend c.free-free.result (Ok o)) c.in-Some.is c.in_ok-draft.ensures in
+    let placed : length (full_legend sense n s.legend) ≤ s.places = omega (arith, read.1, c.free-free.ensures, labels_length a.legend, room_is a.legend, a.legend.within) in
+    let o = sought_in (coded c.coded-network.result) 1 s.forms in
+    let few : length (full_legend sense n s.legend) ≤ length s.legend = omega (arith, ap length read.0.labels, all_length a.legend n c.in-Some.draft.missing read.0.noted, c.len.ensures, c.if-len-ne0.false) in
+    let searched = sought_known sense s n few ∙ ap (λ (h : Coded). sought_in h 1 s.forms) (sym c.coded-network.ensures) in
+    let settles = enter_settles sense s n c.args.allowance n.count o read.0.read placed searched in
+    let is = settles ∙ settled_nowhere sense s n call (full_legend sense n s.legend) o c.in-Nowhere.trials c.in-Nowhere.ensures.answer in
+    let done = subst (λ (q : Pairing). Carried sense (unmet sense s n c.in-Nowhere.trials) c.number-in-Nowhere.result q c.seek.new.place a c.number-in-Nowhere.new.self) c.in-Nowhere.ensures.placed (c.number-in-Nowhere.ensures c.seek.new.place) in
+    record { carried = carried sense a _ call _ is _ _ _ done; law = keeps_law sense s call _ is _ _ _ done.says }
+
+pub returns-in-Spent : goal.returns-in-Spent
+unfolding held_of
+returns-in-Spent g c =
+    let sense = g.L.Label.sense in
+    let n = g.N.Network.means c.args.net.now in
+    let a = c.args.self.now in
+    let s = held_of a in
+    let call = entering n c.args.allowance in
+    let read = subst (λ (o : Option Draft). Reads sense n a.legend c.free-free.result (Ok o)) c.in-Some.is c.in_ok-draft.ensures in
+    let placed : length (full_legend sense n s.legend) ≤ s.places = omega (arith, read.1, c.free-free.ensures, labels_length a.legend, room_is a.legend, a.legend.within) in
+    let o = sought_in (coded c.coded-network.result) 1 s.forms in
+    let few : length (full_legend sense n s.legend) ≤ length s.legend = omega (arith, ap length read.0.labels, all_length a.legend n c.in-Some.draft.missing read.0.noted, c.len.ensures, c.if-len-ne0.false) in
+    let searched = sought_known sense s n few ∙ ap (λ (h : Coded). sought_in h 1 s.forms) (sym c.coded-network.ensures) in
+    let settles = enter_settles sense s n c.args.allowance n.count o read.0.read placed searched in
+    let is = settles ∙ settled_spent sense s n call (full_legend sense n s.legend) o c.in-Spent.ensures.answer in
+    let done = quiet sense a (spent c.args.allowance) _ c.args.place.now c.seek.new.place (record { answer = refl; place = c.in-Spent.ensures.placed }) (λ bytes places. (refl, refl)) in
+    record { carried = carried sense a _ call _ is _ _ _ done; law = keeps_law sense s call _ is _ _ _ done.says }

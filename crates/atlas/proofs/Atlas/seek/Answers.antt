@@ -1,0 +1,119 @@
+use Rattle.std.proofs.Common.{◌≡◌, ℕ, ◌+◌, ◌-◌, ◌<◌, ◌≤◌, List, ◌∷◌, map, length, sym, refl, ap, ◌∙◌, arith}
+use Rattle.std.specs.List.{range_with_len}
+use Rattle.search.specs.Coded.{Coded}
+use Rattle.search.specs.Meanings.{coded}
+use Rattle.search.specs.Searches.{searched}
+use Rattle.atlas.specs.Blocks.{form_in}
+use Rattle.atlas.specs.Calls.{Sought, sought_in}
+use Rattle.atlas.specs.Holding.{forms_in, held_of, bytes_of}
+use Rattle.atlas.proofs.FormByForm.{tried, put, from_form, begun, here_within, here_told, here_images, later_within, later, spent_told, none_left}
+use Rattle.atlas.proofs.Holding.{forms_held, forms_length}
+use Rattle.atlas.proofs.Atlas.seek.Goals as goal
+
+pub loop-k-init : goal.loop-k-init
+unfolding bytes_of
+loop-k-init g c =
+    let a = c.args.self.now in
+    let h = coded c.args.network.now in (
+      omega arith,
+      refl,
+      begun h (form_in (bytes_of a)) (length (held_of a).forms) ∙ ap (sought_in h 1) (sym (forms_held a)),
+    )
+
+pub form-form-requires : goal.form-form-requires
+form-form-requires g c = omega (arith, c.loop-k-test.true, c.count-k-end.ensures)
+
+pub overflow_cast-result : goal.overflow_cast-result
+overflow_cast-result g c = record { fits = omega (arith, c.loop-k-test.true, c.count-k-end.ensures, forms_length c.args.self.now) }
+
+pub overflow_add-result : goal.overflow_add-result
+overflow_add-result g c = record { fits = omega (arith, c.loop-k-test.true, c.count-k-end.ensures, forms_length c.args.self.now) }
+
+pub overflow_add-result-in-Map : goal.overflow_add-result-in-Map
+overflow_add-result-in-Map g c =
+    let a = c.args.self.now in
+    let h = coded c.args.network.now in
+    let f = form_in (bytes_of a) in
+    let k = c.loop-k.k in
+    let t = c.loop-k.trials in
+    let form = coded c.form-form.result in
+    let whole = sought_in h 1 (held_of a).forms in
+    let rest = sought_in h (k + 1 + 1) (map f (range_with_len (k + 1) (length (held_of a).forms - (k + 1)))) in
+    let turn = from_form h f k (length (held_of a).forms) t form whole (omega (arith, c.loop-k-test.true, c.count-k-end.ensures)) c.form-form.ensures c.loop-k.invariant.2 in
+    let within = here_within (k + 1) form (searched form h) rest c.args.allowance t c.loop-k.invariant.0 whole turn c.in-Map.more c.in-Map.ensures.answer in
+    record { fits = omega (arith, within, c.ranges.allowance.fits) }
+
+pub returns-in-Map : goal.returns-in-Map
+returns-in-Map g c =
+    let a = c.args.self.now in
+    let h = coded c.args.network.now in
+    let f = form_in (bytes_of a) in
+    let k = c.loop-k.k in
+    let t = c.loop-k.trials in
+    let form = coded c.form-form.result in
+    let whole = sought_in h 1 (held_of a).forms in
+    let rest = sought_in h (k + 1 + 1) (map f (range_with_len (k + 1) (length (held_of a).forms - (k + 1)))) in
+    let turn = from_form h f k (length (held_of a).forms) t form whole (omega (arith, c.loop-k-test.true, c.count-k-end.ensures)) c.form-form.ensures c.loop-k.invariant.2 in
+    let more = c.in-Map.more in
+    let said = c.in-Map.ensures.answer in
+    record {
+      answer = here_told (k + 1) form (searched form h) rest c.args.allowance t c.loop-k.invariant.0 whole turn more said;
+      placed = c.in-Map.ensures.placed ∙ here_images (k + 1) form (searched form h) rest c.args.allowance t c.loop-k.invariant.0 whole turn more said;
+    }
+
+pub overflow_add-trials : goal.overflow_add-trials
+overflow_add-trials g c =
+    let a = c.args.self.now in
+    let h = coded c.args.network.now in
+    let f = form_in (bytes_of a) in
+    let k = c.loop-k.k in
+    let t = c.loop-k.trials in
+    let form = coded c.form-form.result in
+    let whole = sought_in h 1 (held_of a).forms in
+    let rest = sought_in h (k + 1 + 1) (map f (range_with_len (k + 1) (length (held_of a).forms - (k + 1)))) in
+    let turn = from_form h f k (length (held_of a).forms) t form whole (omega (arith, c.loop-k-test.true, c.count-k-end.ensures)) c.form-form.ensures c.loop-k.invariant.2 in
+    let within = later_within (k + 1) form (searched form h) rest c.args.allowance t c.loop-k.invariant.0 whole turn c.in-NoMap.more c.in-NoMap.ensures.answer in
+    record { fits = omega (arith, within, c.ranges.allowance.fits) }
+
+pub returns-in-Spent : goal.returns-in-Spent
+returns-in-Spent g c =
+    let a = c.args.self.now in
+    let h = coded c.args.network.now in
+    let f = form_in (bytes_of a) in
+    let k = c.loop-k.k in
+    let t = c.loop-k.trials in
+    let form = coded c.form-form.result in
+    let whole = sought_in h 1 (held_of a).forms in
+    let rest = sought_in h (k + 1 + 1) (map f (range_with_len (k + 1) (length (held_of a).forms - (k + 1)))) in
+    let turn = from_form h f k (length (held_of a).forms) t form whole (omega (arith, c.loop-k-test.true, c.count-k-end.ensures)) c.form-form.ensures c.loop-k.invariant.2 in
+    record {
+      answer = spent_told (k + 1) form (searched form h) rest c.args.allowance t c.loop-k.invariant.0 whole turn c.in-Spent.ensures.answer;
+      placed = c.in-Spent.ensures.placed ∙ c.loop-k.invariant.1;
+    }
+
+pub loop-k-preserved : goal.loop-k-preserved
+loop-k-preserved g c =
+    let a = c.args.self.now in
+    let h = coded c.args.network.now in
+    let f = form_in (bytes_of a) in
+    let k = c.loop-k.k in
+    let t = c.loop-k.trials in
+    let form = coded c.form-form.result in
+    let whole = sought_in h 1 (held_of a).forms in
+    let rest = sought_in h (k + 1 + 1) (map f (range_with_len (k + 1) (length (held_of a).forms - (k + 1)))) in
+    let turn = from_form h f k (length (held_of a).forms) t form whole (omega (arith, c.loop-k-test.true, c.count-k-end.ensures)) c.form-form.ensures c.loop-k.invariant.2 in
+    let more = c.in-NoMap.more in
+    let said = c.in-NoMap.ensures.answer in
+    (later_within (k + 1) form (searched form h) rest c.args.allowance t c.loop-k.invariant.0 whole turn more said, c.in-NoMap.ensures.placed ∙ c.loop-k.invariant.1, later (k + 1) form (searched form h) rest c.args.allowance t c.loop-k.invariant.0 whole turn more said)
+
+pub returns : goal.returns
+returns g c =
+    let a = c.args.self.now in
+    let h = coded c.args.network.now in
+    let k = c.loop-k.k in
+    let whole = sought_in h 1 (held_of a).forms in
+    let none = ap (λ (j : ℕ). tried c.loop-k.trials (sought_in h (k + 1) (map (form_in (bytes_of a)) (range_with_len k j)))) {x = 0} {y = length (held_of a).forms - k} (omega (arith, c.count-k-end.ensures)) in
+    record {
+      answer = none_left h (k + 1) c.loop-k.trials c.args.allowance whole c.loop-k.invariant.0 (none ∙ c.loop-k.invariant.2);
+      placed = c.loop-k.invariant.1;
+    }

@@ -1,0 +1,43 @@
+-- The law on each call: the history with the call and its answer added is lawful.
+use Rattle.std.proofs.Common.{◌≡◌, ℕ, ◌≤◌, List, [], ◌∷◌, ◌++◌, ℤ, Result, sym, refl, ap, ◌∙◌, subst}
+use Rattle.atlas.proofs.AfterCalls.{history_append}
+use Rattle.atlas.proofs.AnyCalls.{season_law}
+use Rattle.atlas.specs.Answering.{Says, KeepsLaw, LawfulAfter, WrittenFor, Carried, put_to}
+use Rattle.atlas.specs.Calls.{Call, Held, Reply, Past, After, answered, unchanged, opened, history, left_by}
+use Rattle.atlas.specs.Holding.{held_of, bytes_of, places_of}
+use Rattle.atlas.specs.Law.{Lawful}
+use Rattle.atlas.specs.declared.Atlas.{Atlas}
+use Rattle.atlas.specs.declared.answer.Answer.{Answer}
+use Rattle.survey.specs.declared.pairing.Pairing.{Pairing}
+use Rattle.survey.specs.declared.refusal.Refusal.{Refusal}
+
+module _ {L : Type 0} (sense : L → List ℤ) where
+  -- the call that is answered as defined keeps the law
+  pub lawful_after : (s : Held L) (c : Call L) → LawfulAfter sense s c (put_to sense s c).reply
+  unfolding put_to
+  lawful_after s c blocks places calls small e =
+      subst (λ (t : Held L). Lawful sense (opened blocks places) (history sense (opened blocks places) calls ++ record { before = t; call = c; reply = (answered sense t c).reply } ∷ [])) e
+      (subst (Lawful sense (opened blocks places)) (history_append sense (opened blocks places) calls (c ∷ [])) (season_law sense blocks places (calls ++ c ∷ []) small))
+
+  module _ (s : Held L) (c : Call L) (a : After sense) (e : answered sense s c ≡ a) (r : Result Answer Refusal) (before after : Pairing) where
+    -- what was answered is what is defined
+    pub says : Says a.reply r before after → Says (put_to sense s c).reply r before after
+    unfolding put_to
+    says h = subst (λ (b : After sense). Says b.reply r before after) (sym e) h
+
+    pub keeps_law : Says a.reply r before after → KeepsLaw sense s c r before after
+    keeps_law h = ((put_to sense s c).reply, says h, lawful_after s c)
+
+  -- a call on an atlas, answered by a
+  module _ (atlas atlas' : Atlas L) (c : Call L) (a : After sense) (e : answered sense (held_of atlas) c ≡ a) (r : Result Answer Refusal) (before after : Pairing) where
+    -- what was carried out is what is defined
+    pub carried : Carried sense a r before after atlas atlas' → Carried sense (put_to sense (held_of atlas) c) r before after atlas atlas'
+    unfolding put_to
+    carried h = subst (λ (b : After sense). Carried sense b r before after atlas atlas') (sym e) h
+
+  -- an answer that writes nothing
+  pub quiet :
+      (atlas : Atlas L) (reply : Reply) (r : Result Answer Refusal) (before after : Pairing) → Says reply r before after →
+      ((bytes : List ℕ) (places : List L) → WrittenFor reply (held_of atlas) bytes bytes places places) →
+      Carried sense (unchanged sense (held_of atlas) reply) r before after atlas atlas
+  quiet atlas reply r before after s w = record { says = s; held = refl; written = w (bytes_of atlas) (places_of atlas) }
