@@ -6,7 +6,7 @@ ghost use Rattle.atlas.specs.Worked.{Worked};
 use legend::Legend;
 
 pub mod answer;
-mod block;
+pub mod block;
 pub mod classing;
 mod coder;
 mod coding;

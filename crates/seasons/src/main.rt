@@ -1,5 +1,7 @@
 // Replays whole seasons of calls that an independent model answered too, and prints an answer a line: the file `stdout`
 // beside this crate has the model's answers.
+#![tactic(auto)]
+
 mod fault;
 mod grades;
 mod readings;

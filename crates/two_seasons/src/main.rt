@@ -1,4 +1,6 @@
 // Numbers two seasons of built-in networks, one of grades and one of readings, and prints what each call was answered.
+#![tactic(auto)]
+
 mod mistake;
 mod networks;
 mod notebook;

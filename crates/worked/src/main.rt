@@ -1,5 +1,7 @@
 // Works small networks whose answers are known by hand, and prints what is answered, a line a case. It ends with an
 // error where an answer is another, or where a refused call has written anything.
+#![tactic(auto)]
+
 mod memory;
 mod networks;
 mod outcome;

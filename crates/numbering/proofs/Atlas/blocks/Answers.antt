@@ -1,7 +1,0 @@
-use Rattle.std.proofs.Common.{refl}
-use Rattle.atlas.specs.Holding.{held_of}
-use Rattle.atlas.proofs.Atlas.blocks.Goals as goal
-
-pub returns : goal.returns
-unfolding held_of
-returns g c = c.min.ensures
