@@ -1,20 +1,18 @@
 -- What a call is answered, in the cases in which the code answers it.
-use Rattle.std.proofs.Common.{◌≡◌, ℕ, suc, ◌<◌, ◌≤◌, Bool, true, false, cond, eqb, ltb, leb, List, [], ◌∷◌, ◌++◌, length, ℤ, Some, None, Ok, Err, Option, Result, sym, refl, ap, ◌∙◌, subst, arith, le-ltb, lt-ltb, eq-eqb, ne_eqb, le-leb}
+use Rattle.std.proofs.Common.{◌≡◌, ℕ, suc, ◌<◌, ◌≤◌, Bool, true, false, cond, eqb, ltb, leb, List, length, ℤ, Some, None, Ok, Err, Option, Result, sym, refl, ap, ◌∙◌, arith, le-ltb, lt-ltb, ne_eqb, le-leb}
 use borrow.Author.Tests.{lt-leb}
 use Rattle.std.specs.List.{range_with_len}
 use Rattle.std.proofs.lemmas.Bool.{leb-true, leb-false}
-use Rattle.atlas.proofs.Reading.{Readable, read_ok}
+use Rattle.atlas.proofs.Reading.{read_ok}
 use Rattle.atlas.proofs.Senses.{full_same}
-use Rattle.atlas.specs.Answering.{told, Placed, Says, WrittenFor, entering, finding}
-use Rattle.atlas.specs.Calls.{Ask, Call, Held, Reply, After, Sought, nothing_sought, sought_in, first_loop, unchanged, with_form, sought, unmatched, settled, read_and_settled, answered}
-use Rattle.atlas.specs.Calls.Ask.{enters, finds}
-use Rattle.atlas.specs.Calls.Reply.{new, known, unknown, spent, no_stations, too_many, leg_to_itself, legend_full, atlas_full}
+use Rattle.atlas.specs.Answering.{told, Placed, WrittenFor, entering, finding}
+use Rattle.atlas.specs.Calls.{Call, Held, Reply, After, Sought, nothing_sought, sought_in, first_loop, unchanged, with_form, sought, unmatched, settled, read_and_settled, answered}
+use Rattle.atlas.specs.Calls.Ask.{enters}
+use Rattle.atlas.specs.Calls.Reply.{new, known, spent, no_stations, too_many, leg_to_itself, legend_full, atlas_full}
 use Rattle.atlas.specs.Legends.{coded_by, full_legend}
 use Rattle.atlas.specs.Readings.{stations_read}
 use Rattle.atlas.specs.Seeking.{found_in, told_sought, images_in}
 use Rattle.atlas.specs.declared.answer.Answer.{Answer}
-use Rattle.atlas.specs.declared.answer.Answer.TheVariants.{New, Known, Unknown, Spent}
-use Rattle.atlas.specs.declared.seeking.Sought.{Sought as CodeSought}
 use Rattle.atlas.specs.declared.seeking.Sought.TheVariants.{Found, Nowhere, Spent as Overspent}
 use Rattle.survey.specs.Networks.{Net}
 use Rattle.survey.specs.declared.pairing.Pairing.{Pairing}

@@ -8,7 +8,6 @@ use Rattle.search.specs.Following.{Outcome, image}
 use Rattle.search.specs.Searches.{searched}
 use Rattle.search.specs.Allowance.{pairs_in}
 use Rattle.search.specs.Answers.{answered, told}
-use Rattle.search.specs.declared.answer.Answer.{Answer}
 use Rattle.search.specs.declared.answer.Answer.TheVariants.{Map, NoMap, Spent as Overspent}
 use Rattle.atlas.specs.Calls.{Sought, sought_in}
 use Rattle.atlas.specs.Seeking.{found_in, told_sought, images_in}

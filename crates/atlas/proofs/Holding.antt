@@ -1,11 +1,10 @@
 -- What an atlas holds, part by part.
-use Rattle.std.proofs.Common.{◌≡◌, ℕ, zero, suc, ◌+◌, ◌-◌, ◌*◌, ◌/◌, ◌<◌, ◌≤◌, min, Bool, true, false, cond, List, [], ◌∷◌, ◌++◌, map, length, get_or, Some, None, sym, refl, ap, ◌∙◌, arith}
+use Rattle.std.proofs.Common.{◌≡◌, ℕ, zero, suc, ◌+◌, ◌-◌, ◌*◌, ◌<◌, min, Bool, true, false, cond, List, [], ◌∷◌, ◌++◌, map, length, get_or, Some, None, sym, refl, ap, ◌∙◌, arith}
 use Rattle.std.proofs.lemmas.List.{get_or-append_right}
 use Rattle.std.specs.List.{range_with_len}
 use Rattle.std.specs.Option.{option_map}
 use Rattle.atlas.specs.Blocks.{blocks_in, block_coded, form_in, no_form, Kept}
-use Rattle.atlas.specs.Calls.{Held}
-use Rattle.atlas.specs.Holding.{forms_in, held_of, with_coded}
+use Rattle.atlas.specs.Holding.{forms_in, held_of}
 use Rattle.atlas.specs.Lent.{labels_of, room_of}
 use Rattle.atlas.proofs.KeptBlocks.{block_other}
 use Rattle.atlas.specs.declared.Atlas.{Atlas}

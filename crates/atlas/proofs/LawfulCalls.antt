@@ -1,9 +1,9 @@
 -- The law on each call: the history with the call and its answer added is lawful.
-use Rattle.std.proofs.Common.{◌≡◌, ℕ, ◌≤◌, List, [], ◌∷◌, ◌++◌, ℤ, Result, sym, refl, ap, ◌∙◌, subst}
+use Rattle.std.proofs.Common.{◌≡◌, ℕ, List, [], ◌∷◌, ◌++◌, ℤ, Result, sym, refl, subst}
 use Rattle.atlas.proofs.AfterCalls.{history_append}
 use Rattle.atlas.proofs.AnyCalls.{season_law}
 use Rattle.atlas.specs.Answering.{Says, KeepsLaw, LawfulAfter, WrittenFor, Carried, put_to}
-use Rattle.atlas.specs.Calls.{Call, Held, Reply, Past, After, answered, unchanged, opened, history, left_by}
+use Rattle.atlas.specs.Calls.{Call, Held, Reply, After, answered, unchanged, opened, history}
 use Rattle.atlas.specs.Holding.{held_of, bytes_of, places_of}
 use Rattle.atlas.specs.Law.{Lawful}
 use Rattle.atlas.specs.declared.Atlas.{Atlas}

@@ -1,5 +1,5 @@
 -- The labels of a legend, as they lie in its places.
-use Rattle.std.proofs.Common.{◌≡◌, ℕ, suc, ◌+◌, ◌-◌, ◌<◌, ◌≤◌, min, Bool, true, false, cond, List, [], ◌∷◌, ◌++◌, length, get_or, take, drop, set, sym, refl, ap, ◌∙◌, arith, length-take, get_or-take}
+use Rattle.std.proofs.Common.{◌≡◌, ℕ, ◌<◌, min, length, get_or, take, sym, refl, ap, ◌∙◌, arith, length-take, get_or-take}
 use Rattle.atlas.specs.Lent.{labels_of, room_of}
 use Rattle.atlas.specs.declared.legend.Legend.{Legend}
 

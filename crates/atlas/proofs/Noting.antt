@@ -1,16 +1,11 @@
 -- Noting the legs of a network: the labels of the legend and the missing ones behind them, as one list.
-use Rattle.std.proofs.Common.{◌≡◌, ℕ, zero, suc, ◌+◌, ◌-◌, ◌<◌, ◌≤◌, min, Bool, true, false, cond, eqb, ltb, leb, List, [], ◌∷◌, ◌++◌, length, ℤ, Some, None, Option, sym, refl, ap, ◌∙◌, arith, length-append, le-leb}
-use borrow.Author.Tests.{lt-leb}
-use Rattle.std.specs.List.{range_with_len}
+use Rattle.std.proofs.Common.{◌≡◌, ℕ, ◌+◌, ◌≤◌, Bool, true, false, cond, eqb, ltb, leb, List, [], ◌∷◌, ◌++◌, length, ℤ, Some, None, Option, sym, ap, ◌∙◌, arith, length-append, le-leb}
 use Rattle.std.proofs.lemmas.List.{append_assoc, append-nil}
-use Rattle.std.proofs.lemmas.Bool.{leb-true, leb-false}
 use Rattle.std.proofs.lemmas.Bool.Decides.{nat_tests}
-use Rattle.atlas.specs.Legends.{number_of, noted, noted_row, noted_rows, code_of}
+use Rattle.atlas.specs.Legends.{number_of, noted}
 use Rattle.atlas.specs.Lent.{labels_of, room_of, all_labels, most_labels}
 use Rattle.atlas.specs.declared.legend.Legend.{Legend}
-use Rattle.atlas.specs.Senses.{same_sense}
 use Rattle.atlas.proofs.Lending.{labels_length, room_is}
-use Rattle.atlas.proofs.Senses.{noted_row_grown, noted_rows_grown, noted_grown}
 
 module _ {L : Type 0} (sense : L → List ℤ) where
   -- the number of a label in two lists put together

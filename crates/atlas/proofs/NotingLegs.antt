@@ -1,5 +1,5 @@
 -- Noting the legs that first have a missing label: the labels of the legend and those of the legs behind them, as one list.
-use Rattle.std.proofs.Common.{◌≡◌, ℕ, suc, ◌+◌, ◌<◌, ◌≤◌, Bool, true, false, cond, not, eqb, ltb, leb, List, [], ◌∷◌, ◌++◌, length, get_or, drop, ℤ, Some, None, Option, sym, refl, ap, ◌∙◌, arith, length-append, length-take, get_or-take, le-leb}
+use Rattle.std.proofs.Common.{◌≡◌, ℕ, suc, ◌+◌, ◌<◌, ◌≤◌, Bool, true, false, cond, eqb, ltb, leb, List, [], ◌∷◌, ◌++◌, length, get_or, drop, ℤ, Some, None, Option, sym, refl, ap, ◌∙◌, arith, length-append, length-take, get_or-take, le-leb}
 use Rattle.std.proofs.lemmas.List.{append_assoc, append-nil, at_drop_more, at_drop_all}
 use Rattle.std.proofs.lemmas.Bool.Decides.{nat_tests}
 use Rattle.atlas.specs.Legends.{number_of, noted}
@@ -8,7 +8,7 @@ use Rattle.atlas.specs.FirstLegs.{legs_of, labels_on, missing_of, Noted, joined_
 use Rattle.atlas.specs.Senses.{same_sense}
 use Rattle.atlas.specs.declared.legend.Legend.{Legend}
 use Rattle.atlas.specs.declared.first_legs.Missing.{Missing}
-use Rattle.atlas.proofs.Noting.{number_append, noted_missing, noted_present}
+use Rattle.atlas.proofs.Noting.{noted_missing, noted_present}
 use Rattle.atlas.proofs.Numbers.{sense_decides}
 use Rattle.survey.specs.Networks.{Net}
 

@@ -1,17 +1,16 @@
 -- Requests put one after another: each is fulfilled, and the lent memory holds what they left.
-use Rattle.std.proofs.Common.{◌≡◌, ℕ, suc, ◌+◌, ◌-◌, ◌*◌, ◌<◌, ◌≤◌, false, ◌&&◌, ltb, leb, ◌⊎◌, List, [], ◌∷◌, ◌++◌, map, length, get_or, take, drop, set, ℤ, Some, Result, sym, refl, ap, ◌∙◌, subst, inl, inr, arith, length-append, length-drop}
-use Rattle.std.proofs.lemmas.List.{append_assoc, append-nil, take_more_set, take_all, drop_more, drop-set-lt, drop-drop, ext_get_or, get_or-drop, at_drop_more, at_drop_all, get_or_append_left}
+use Rattle.std.proofs.Common.{◌≡◌, ℕ, suc, ◌+◌, ◌-◌, ◌*◌, ◌<◌, ◌≤◌, false, ◌&&◌, ltb, leb, ◌⊎◌, List, [], ◌∷◌, ◌++◌, map, length, get_or, drop, ℤ, Some, Result, sym, refl, ap, ◌∙◌, subst, inl, inr, arith, length-append, length-drop}
+use Rattle.std.proofs.lemmas.List.{append_assoc, ext_get_or, get_or-drop, get_or_append_left}
 use Rattle.std.proofs.lemmas.Bool.{cases_lt}
 use Rattle.std.proofs.lemmas.Bool.Decides.{nat_tests}
 use Rattle.search.specs.Coded.{Coded}
-use Rattle.atlas.proofs.AnswerCases.{Silent, answer_case}
-use Rattle.atlas.proofs.Holding.{last_at}
+use Rattle.atlas.proofs.AnswerCases.{answer_case}
 use Rattle.atlas.proofs.Joining.{behind_more}
 use Rattle.atlas.proofs.KeptBlocks.{block_other}
 use Rattle.atlas.specs.Answering.{told, Placed, WrittenFor, put_to}
 use Rattle.atlas.specs.Blocks.{block_coded, no_form, Kept}
-use Rattle.atlas.specs.Calls.{Ask, Call, Held, Reply, Past, After, answered, with_form, history, left_by}
-use Rattle.atlas.specs.Calls.Ask.{enters, finds}
+use Rattle.atlas.specs.Calls.{Call, Held, Reply, After, with_form, history, left_by}
+use Rattle.atlas.specs.Calls.Ask.{finds}
 use Rattle.atlas.specs.Calls.Reply.{new}
 use Rattle.atlas.specs.Legends.{coded_by}
 use Rattle.atlas.specs.FirstLegs.{Behind}

@@ -1,7 +1,7 @@
 -- What the calls of an atlas answer, in the words of the code, and what they leave in lent memory.
 use Rattle.std.specs.Prelude.{◌≡◌, ℕ, ◌-◌, ◌*◌, ◌≤◌, List, [], ◌∷◌, ◌++◌, length, ℤ, Ok, Err, Result, slice_index_or}
 use Rattle.atlas.specs.Blocks.{block_coded, no_form, Kept}
-use Rattle.atlas.specs.Calls.{Ask, Call, Held, Reply, After, answered, unmatched, opened, history, left_by}
+use Rattle.atlas.specs.Calls.{Call, Held, Reply, After, answered, unmatched, opened, history, left_by}
 use Rattle.atlas.specs.Calls.Ask.{enters, finds}
 use Rattle.atlas.specs.Calls.Reply.{new, known, unknown, spent, no_stations, too_many, leg_to_itself, legend_full, atlas_full}
 use Rattle.atlas.specs.Holding.{held_of, bytes_of, places_of}

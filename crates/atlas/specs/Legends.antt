@@ -1,5 +1,5 @@
 -- The legend: labels of different senses, whose places number them; and networks coded by it.
-use Rattle.std.specs.Prelude.{ℕ, suc, Bool, true, false, List, [], ◌∷◌, ◌++◌, ℤ, Some, None, Option, ◌==◌}
+use Rattle.std.specs.Prelude.{ℕ, suc, true, false, List, [], ◌∷◌, ◌++◌, ℤ, Some, None, Option, ◌==◌}
 use Rattle.std.specs.List.{range_with_len}
 use Rattle.atlas.specs.Senses.{same_sense}
 use Rattle.search.specs.Coded.{Coded}

@@ -1,5 +1,5 @@
 -- Reading a network: which networks an atlas takes, and what is refused.
-use Rattle.std.specs.Prelude.{ℕ, Bool, true, false, List, ℤ, Some, None, Ok, Err, Result, ◌==◌, nat_lt}
+use Rattle.std.specs.Prelude.{ℕ, true, false, List, ℤ, Some, None, Ok, Err, Result, ◌==◌, nat_lt}
 use Rattle.std.specs.List.{range_with_len}
 use Rattle.atlas.specs.Calls.{first_loop}
 use Rattle.survey.specs.Networks.{Net}

@@ -1,5 +1,5 @@
 -- Senses of labels, as a test.
-use Rattle.std.specs.Prelude.{Bool, true, false, ◌&&◌, List, [], ◌∷◌, ℤ, pos, negsuc, ◌==◌}
+use Rattle.std.specs.Prelude.{Bool, true, false, List, [], ◌∷◌, ℤ, pos, negsuc, ◌==◌}
 
 -- whether two whole numbers are equal
 abbrev pub same_int : ℤ → ℤ → Bool

@@ -1,17 +1,15 @@
 -- Networks that can be worked by hand, put to an atlas of grades.
-use Rattle.std.specs.Prelude.{◌≡◌, ℕ, Bool, true, false, cond, ◌&&◌, List, [], ◌∷◌, map, ℤ, pos, negsuc, Some, None, Option, ◌==◌, refl}
-use Rattle.atlas.specs.Calls.{Ask, Call, Reply, history, opened, answered}
+use Rattle.std.specs.Prelude.{◌≡◌, ℕ, true, false, cond, ◌&&◌, List, [], ◌∷◌, map, pos, negsuc, Some, None, Option, ◌==◌, refl}
+use Rattle.atlas.specs.Calls.{Call, Reply, history, opened}
 use Rattle.atlas.specs.Calls.Ask.{enters, finds}
 use Rattle.atlas.specs.Calls.Reply.{new, known, unknown, spent}
 use Rattle.search.specs.Classes.{class_of, mask}
 use Rattle.search.specs.Searches.{classes}
-use Rattle.search.specs.Coded.{Coded}
 use Rattle.atlas.specs.Legends.{coded_by}
 use Rattle.survey.specs.Grades.{grade_sense}
 use Rattle.survey.specs.Networks.{Net}
 use Rattle.survey.specs.Readings.{reading_turned}
 use Rattle.survey.specs.declared.grade.Grade.{Grade}
-use Rattle.survey.specs.declared.reading.Reading.{Reading}
 
 -- grade 1
 abbrev first_grade : Grade

@@ -1,11 +1,11 @@
 -- Pairings that carry one network onto another: how a loop decides it, and that maps go back and compose.
-use Rattle.std.proofs.Common.{◌≡◌, ℕ, ◌+◌, ◌<◌, ◌≤◌, Bool, true, false, ◌⊎◌, List, length, get_or, ℤ, Decides, sym, refl, ap, ◌∙◌, ap₂, inl, inr, arith}
+use Rattle.std.proofs.Common.{◌≡◌, ℕ, ◌<◌, ◌≤◌, true, false, ◌⊎◌, List, length, get_or, ℤ, Decides, sym, refl, ap, ◌∙◌, ap₂, inl, inr, arith}
 use Rattle.std.specs.Option.{option_map}
 use Rattle.std.proofs.lemmas.Bool.{cases_lt}
 use Rattle.survey.specs.Carrying.{Carries, GoesBack, MapsBack, MapsCompose}
-use Rattle.survey.specs.Maps.{Map, Mapped}
+use Rattle.survey.specs.Maps.{Map}
 use Rattle.survey.specs.Networks.{Net}
-use Rattle.survey.specs.Pairings.{size_of, image_of, images_of, Reverses}
+use Rattle.survey.specs.Pairings.{size_of, image_of, images_of}
 use Rattle.survey.specs.declared.pairing.Pairing.{Pairing}
 use Rattle.survey.proofs.Paired.{images_length, images_at, image_below, pairing_stands}
 

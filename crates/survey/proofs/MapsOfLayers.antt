@@ -1,8 +1,7 @@
 -- Maps between networks are maps between their layers, and turning twice gives the first senses: from the laws of labels alone.
-use Rattle.std.proofs.Common.{◌≡◌, ℕ, List, ℤ, Some, None, Option, sym, refl, ap, ◌∙◌, arith}
+use Rattle.std.proofs.Common.{◌≡◌, ℕ, List, ℤ, Some, None, Option, sym, refl, ap, arith}
 use Rattle.std.specs.Option.{option_map}
-use Rattle.survey.specs.Layers.{or_else, turned_means, both_ways_means, TurnsBack, MapsTurned, MapsBothWays}
-use Rattle.survey.specs.Maps.{Map, SameSenses}
+use Rattle.survey.specs.Layers.{or_else, TurnsBack, MapsTurned, MapsBothWays}
 use Rattle.survey.specs.Networks.{Net}
 
 module _ {L : Type 0} (sense : L → List ℤ) where

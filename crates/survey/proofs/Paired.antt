@@ -1,6 +1,5 @@
 -- Every pairing is one-to-one and onto below its count, and images that are one-to-one make a pairing.
-use Rattle.std.proofs.Common.{◌≡◌, ℕ, zero, suc, ◌+◌, ◌-◌, ◌<◌, ◌≤◌, min, Bool, true, false, cond, eqb, List, [], ◌∷◌, length, get_or, take, sym, refl, ap, ◌∙◌, subst, arith, length-take, get_or-take}
-use Rattle.std.proofs.lemmas.Bool.Decides.{nat_tests}
+use Rattle.std.proofs.Common.{◌≡◌, ℕ, ◌<◌, ◌≤◌, List, length, get_or, sym, ap, ◌∙◌, arith, length-take, get_or-take}
 use Rattle.survey.proofs.Pigeonhole.{Parts, Reached, onto_below}
 use Rattle.survey.specs.Pairings.{size_of, image_of, images_of, Within, OneToOne, Onto, OneToOneOnto}
 use Rattle.survey.specs.declared.pairing.Pairing.{Pairing}

@@ -1,5 +1,5 @@
 -- Stations that are taken out and stations that stay: how many there are, and where an old number stands among the new ones.
-use Rattle.std.proofs.Common.{◌≡◌, ℕ, zero, suc, ◌+◌, ◌-◌, ◌*◌, ◌/◌, ◌%◌, ◌^◌, ◌<◌, ◌≤◌, min, Bool, true, false, cond, not, eqb, ◌⊎◌, List, [], ◌∷◌, ◌++◌, length, get_or, filter, sym, refl, ap, ◌∙◌, inl, inr, add-zero, mod-lt, zero-add, add-one, arith, length-append, pow_pos, pow_mono}
+use Rattle.std.proofs.Common.{◌≡◌, ℕ, zero, suc, ◌+◌, ◌-◌, ◌/◌, ◌%◌, ◌^◌, ◌<◌, ◌≤◌, min, Bool, true, false, cond, not, eqb, ◌⊎◌, List, [], ◌∷◌, ◌++◌, length, get_or, filter, sym, refl, ap, ◌∙◌, inl, inr, add-zero, mod-lt, zero-add, add-one, arith, length-append, pow_pos, pow_mono}
 use native.Mathlib.Nat.{div-eq_of_lt, mod-one, pow-succ'}
 use lib.Arith.{mod-mul}
 use lib.Count.{ones, ones_in, ones_cat}

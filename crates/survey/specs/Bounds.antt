@@ -1,9 +1,8 @@
 -- Every source keeps the bounds of a network.
-use Rattle.std.specs.Prelude.{◌≡◌, ℕ, ◌+◌, ◌*◌, ◌≤◌, min, Bool, true, false, cond, ◌&&◌, List, Some, None, Option, nat_lt, slice_index, refl}
+use Rattle.std.specs.Prelude.{◌≡◌, ℕ, ◌+◌, ◌*◌, ◌≤◌, min, Bool, true, false, cond, ◌&&◌, List, None, Option, nat_lt, slice_index, refl}
 use Rattle.std.proofs.Common.{ap, ◌∙◌, arith, le-ltb}
-use Rattle.survey.specs.declared.grade.Grade.{Grade}
 use Rattle.survey.specs.declared.leg_list.Leg.{Leg}
-use Rattle.survey.specs.Networks.{Net, Bounded}
+use Rattle.survey.specs.Networks.{Bounded}
 use Rattle.survey.specs.Sources.{kinds_counted, kind_listed, first_record, list_means, grade_in_byte, table_means}
 
 -- the second part of a test fails it

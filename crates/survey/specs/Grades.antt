@@ -1,5 +1,5 @@
 -- Grades: what a grade says, and which numbers make one.
-use Rattle.std.specs.Prelude.{ℕ, min, max, Bool, true, false, cond, ◌&&◌, List, [], ◌∷◌, ◌++◌, ℤ, pos, Ok, Err, codes, decimal, Result, nat_le}
+use Rattle.std.specs.Prelude.{ℕ, min, max, cond, ◌&&◌, List, [], ◌∷◌, ◌++◌, ℤ, pos, Ok, Err, codes, decimal, Result, nat_le}
 use Rattle.survey.specs.declared.grade.Grade.{Grade}
 use Rattle.survey.specs.declared.refusal.Refusal.{Refusal}
 use Rattle.survey.specs.declared.refusal.Refusal.TheVariants.{OutOfRange}

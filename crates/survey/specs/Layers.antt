@@ -1,5 +1,5 @@
 -- Layers: networks made of the network below.
-use Rattle.std.specs.Prelude.{◌≡◌, ℕ, ◌≤◌, List, ℤ, Some, None, Option, refl}
+use Rattle.std.specs.Prelude.{ℕ, List, ℤ, Some, None, Option}
 use Rattle.std.proofs.Common.{ap, ◌∙◌}
 use Rattle.std.specs.Option.{option_map}
 use Rattle.survey.specs.Maps.{Map, SameSenses}

@@ -1,5 +1,5 @@
 -- Networks: what any source or layer means.
-use Rattle.std.specs.Prelude.{◌≡◌, ℕ, ◌≤◌, Some, None, Option}
+use Rattle.std.specs.Prelude.{◌≡◌, ℕ, ◌≤◌, None, Option}
 
 -- a network by its meaning: how many stations, a kind for each, and for each ordered pair no leg or one labelled leg
 pub record Net (L : Type 0) : Type 0 where

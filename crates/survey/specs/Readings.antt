@@ -1,5 +1,5 @@
 -- Readings of tape, compass and clinometer: what a reading says, how it is turned, and which numbers make one.
-use Rattle.std.specs.Prelude.{ℕ, ◌+◌, ◌-◌, min, Bool, true, false, cond, ◌&&◌, List, [], ◌∷◌, ◌++◌, ℤ, pos, negsuc, neg_ℤ, Ok, Err, codes, decimal, Result, int_le, nat_le}
+use Rattle.std.specs.Prelude.{ℕ, ◌+◌, ◌-◌, min, cond, ◌&&◌, List, [], ◌∷◌, ◌++◌, ℤ, pos, negsuc, neg_ℤ, Ok, Err, codes, decimal, Result, int_le, nat_le}
 use Rattle.std.specs.Int.{int_min, int_max}
 use Rattle.std.specs.Fmt.{signed_decimal}
 use Rattle.survey.specs.declared.reading.Reading.{Reading}

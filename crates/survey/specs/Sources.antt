@@ -1,5 +1,5 @@
 -- Sources of networks: what lent kinds, records and tables mean.
-use Rattle.std.specs.Prelude.{ℕ, ◌+◌, ◌*◌, min, Bool, true, false, cond, ◌&&◌, List, [], ◌∷◌, length, Some, None, Option, ◌==◌, nat_lt, slice_index}
+use Rattle.std.specs.Prelude.{ℕ, ◌+◌, ◌*◌, min, cond, ◌&&◌, List, [], ◌∷◌, length, Some, None, Option, ◌==◌, nat_lt, slice_index}
 use Rattle.survey.specs.declared.grade.Grade.{Grade}
 use Rattle.survey.specs.declared.leg_list.Leg.{Leg}
 use Rattle.survey.specs.Networks.{Net}

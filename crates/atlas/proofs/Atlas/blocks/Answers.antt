@@ -1,4 +1,3 @@
-use Rattle.std.proofs.Common.{refl}
 use Rattle.atlas.specs.Holding.{held_of}
 use Rattle.atlas.proofs.Atlas.blocks.Goals as goal
 

@@ -1,4 +1,4 @@
-use Rattle.std.proofs.Common.{◌≡◌, ℕ, ◌+◌, ◌-◌, ◌<◌, ◌≤◌, List, length, get_or, Some, Option, sym, refl, ap, ◌∙◌, subst, arith}
+use Rattle.std.proofs.Common.{◌≡◌, ◌+◌, ◌-◌, ◌<◌, List, length, get_or, Some, Option, sym, ap, ◌∙◌, arith}
 use Rattle.search.specs.Coded.{Coded}
 use Rattle.search.specs.Meanings.{coded, reps_of}
 use Rattle.survey.specs.declared.refusal.Refusal.TheVariants.{NoSuchForm, NoSuchStation}

@@ -1,16 +1,14 @@
-use Rattle.std.proofs.Common.{◌≡◌, ℕ, ◌+◌, ◌<◌, ◌≤◌, List, length, Some, None, Ok, Err, Option, Result, sym, refl, ap, ◌∙◌, subst, arith}
+use Rattle.std.proofs.Common.{ℕ, ◌<◌, ◌≤◌, length, Ok, Err, Option, Result, sym, refl, ap, ◌∙◌, subst, arith}
 use Rattle.std.specs.List.{range_with_len}
 use Rattle.std.proofs.lemmas.Result.{err_from_is_err_and}
 use Rattle.search.specs.Coded.{Coded}
 use Rattle.search.specs.Meanings.{coded}
 use Rattle.atlas.specs.Answering.{Says, Carried, entering, unmet}
-use Rattle.atlas.specs.Calls.{Held, Reply, After, Sought, first_loop, unchanged, sought_in, nothing_sought, settled}
+use Rattle.atlas.specs.Calls.{first_loop, sought_in, nothing_sought}
 use Rattle.atlas.specs.Calls.Reply.{known, spent, legend_full}
-use Rattle.atlas.specs.Drafts.{Drafted, Reads}
+use Rattle.atlas.specs.Drafts.{Reads}
 use Rattle.atlas.specs.Holding.{held_of}
-use Rattle.atlas.specs.Legends.{full_legend, coded_by}
-use Rattle.atlas.specs.Lent.{labels_of, room_of}
-use Rattle.atlas.specs.FirstLegs.{legs_of, joined_labels}
+use Rattle.atlas.specs.Legends.{full_legend}
 use Rattle.atlas.specs.declared.answer.Answer.{Answer}
 use Rattle.atlas.specs.declared.draft.Draft.{Draft}
 use Rattle.survey.specs.declared.pairing.Pairing.{Pairing}

@@ -1,4 +1,4 @@
-use Rattle.std.proofs.Common.{◌≡◌, sym, refl, ◌∙◌, arith}
+use Rattle.std.proofs.Common.{◌∙◌, arith}
 use Rattle.search.specs.Meanings.{coded}
 use Rattle.atlas.specs.Blocks.{block_coded}
 use Rattle.atlas.specs.Holding.{bytes_of}

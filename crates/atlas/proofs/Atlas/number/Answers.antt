@@ -1,13 +1,13 @@
-use Rattle.std.proofs.Common.{◌≡◌, ℕ, suc, ◌+◌, ◌-◌, ◌*◌, ◌<◌, ◌≤◌, List, [], ◌∷◌, ◌++◌, length, Ok, Err, Result, sym, refl, ap, ◌∙◌, subst, arith, length-append}
+use Rattle.std.proofs.Common.{◌≡◌, ℕ, suc, ◌-◌, ◌*◌, ◌<◌, ◌≤◌, List, [], ◌∷◌, ◌++◌, length, Ok, Err, Result, sym, refl, ap, ◌∙◌, subst, arith, length-append}
 use Rattle.std.specs.List.{range_with_len}
 use Rattle.search.specs.Coded.{Coded}
 use Rattle.search.specs.Meanings.{coded}
 use Rattle.atlas.specs.Answering.{Carried, unmet}
 use Rattle.atlas.specs.Blocks.{trimmed, block_coded, no_form, Kept}
 use Rattle.atlas.specs.Calls.{Held, After, first_loop}
-use Rattle.atlas.specs.Holding.{forms_in, held_of, bytes_of, places_of}
+use Rattle.atlas.specs.Holding.{held_of, bytes_of, places_of}
 use Rattle.atlas.specs.Legends.{full_legend, coded_by}
-use Rattle.atlas.specs.Lent.{labels_of, room_of}
+use Rattle.atlas.specs.Lent.{labels_of}
 use Rattle.atlas.specs.FirstLegs.{Behind}
 use Rattle.atlas.specs.declared.answer.Answer.{Answer}
 use Rattle.atlas.specs.declared.answer.Answer.TheVariants.{New}

@@ -1,5 +1,5 @@
-use Rattle.std.proofs.Common.{◌≡◌, ℕ, List, refl, ap, ◌∙◌}
-use Rattle.atlas.specs.Holding.{held_of, bytes_of, places_of}
+use Rattle.std.proofs.Common.{refl}
+use Rattle.atlas.specs.Holding.{bytes_of, places_of}
 use Rattle.atlas.proofs.Holding.{held_parts, none_yet}
 use Rattle.atlas.proofs.Atlas.open.Goals as goal
 

@@ -1,12 +1,11 @@
-use Rattle.std.proofs.Common.{◌≡◌, ℕ, ◌+◌, ◌-◌, ◌<◌, ◌≤◌, List, ◌∷◌, map, length, sym, refl, ap, ◌∙◌, arith}
+use Rattle.std.proofs.Common.{ℕ, ◌+◌, ◌-◌, map, length, sym, refl, ap, ◌∙◌, arith}
 use Rattle.std.specs.List.{range_with_len}
-use Rattle.search.specs.Coded.{Coded}
 use Rattle.search.specs.Meanings.{coded}
 use Rattle.search.specs.Searches.{searched}
 use Rattle.atlas.specs.Blocks.{form_in}
-use Rattle.atlas.specs.Calls.{Sought, sought_in}
-use Rattle.atlas.specs.Holding.{forms_in, held_of, bytes_of}
-use Rattle.atlas.proofs.FormByForm.{tried, put, from_form, begun, here_within, here_told, here_images, later_within, later, spent_told, none_left}
+use Rattle.atlas.specs.Calls.{sought_in}
+use Rattle.atlas.specs.Holding.{held_of, bytes_of}
+use Rattle.atlas.proofs.FormByForm.{tried, from_form, begun, here_within, here_told, here_images, later_within, later, spent_told, none_left}
 use Rattle.atlas.proofs.Holding.{forms_held, forms_length}
 use Rattle.atlas.proofs.Atlas.seek.Goals as goal
 

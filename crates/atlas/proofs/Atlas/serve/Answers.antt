@@ -1,5 +1,5 @@
-use Rattle.std.proofs.Common.{◌≡◌, sym, refl, ap, ◌∙◌, subst}
-use Rattle.atlas.specs.Answering.{Says, Carried, WrittenFor, entering, finding, put_to}
+use Rattle.std.proofs.Common.{◌≡◌, sym, ap, ◌∙◌, subst}
+use Rattle.atlas.specs.Answering.{Says, Carried, WrittenFor, finding, put_to}
 use Rattle.atlas.specs.Calls.{Call}
 use Rattle.atlas.specs.Holding.{held_of, bytes_of, places_of}
 use Rattle.atlas.specs.Seasons.{ask_of, call_of}

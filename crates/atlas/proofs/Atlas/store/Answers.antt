@@ -1,5 +1,4 @@
-use Rattle.std.proofs.Common.{◌≡◌, ℕ, ◌+◌, ◌*◌, ◌/◌, min, List, [], ◌∷◌, ◌++◌, length, sym, refl, ap, ◌∙◌, subst, arith}
-use Rattle.search.specs.Coded.{Coded}
+use Rattle.std.proofs.Common.{◌≡◌, ℕ, ◌+◌, ◌*◌, ◌/◌, min, [], ◌∷◌, ◌++◌, sym, refl, ap, ◌∙◌, subst, arith}
 use Rattle.search.specs.Meanings.{coded}
 use Rattle.atlas.specs.Blocks.{blocks_in, block_coded, Kept}
 use Rattle.atlas.specs.Holding.{forms_in, held_of, bytes_of, places_of}

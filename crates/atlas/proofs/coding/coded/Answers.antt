@@ -1,5 +1,4 @@
-use Rattle.std.proofs.Common.{◌≡◌, List, length, ap, ◌∙◌, arith}
-use Rattle.search.specs.Coded.{Coded}
+use Rattle.std.proofs.Common.{List, length, ap, ◌∙◌, arith}
 use Rattle.atlas.specs.Legends.{coded_by}
 use Rattle.atlas.proofs.Lending.{labels_length}
 use Rattle.atlas.proofs.Noting.{none_behind}

@@ -1,4 +1,4 @@
-use Rattle.std.proofs.Common.{◌≡◌, sym, refl, ap, ◌∙◌, arith}
+use Rattle.std.proofs.Common.{sym, refl, ◌∙◌}
 use Rattle.atlas.proofs.Noting.{stays_fits, none_stays, present_stays, added_fits, added_labels, most_kept}
 use Rattle.atlas.proofs.missing.note.Goals as goal
 use Rattle.atlas.proofs.missing.note.Goals.{then-number-ne0-via-then-number-ne0, then-number-ne0-via-else-number-ne0+then-number-ne0-2}

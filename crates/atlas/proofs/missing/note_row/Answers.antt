@@ -1,6 +1,6 @@
-use Rattle.std.proofs.Common.{◌≡◌, ℕ, ◌-◌, Bool, true, false, leb, List, length, sym, refl, ap, ◌∙◌, arith, le-leb}
+use Rattle.std.proofs.Common.{◌≡◌, ℕ, ◌-◌, leb, length, sym, refl, ap, ◌∙◌, arith, le-leb}
 use Rattle.std.specs.List.{range_with_len}
-use Rattle.atlas.specs.Legends.{noted, noted_row, noted_rows}
+use Rattle.atlas.specs.Legends.{noted, noted_row}
 use Rattle.atlas.specs.Lent.{all_labels, most_labels}
 use Rattle.atlas.proofs.Noting.{all_fit}
 use Rattle.atlas.proofs.Senses.{noted_row_grown}

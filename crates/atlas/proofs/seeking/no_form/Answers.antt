@@ -1,4 +1,4 @@
-use Rattle.std.proofs.Common.{◌≡◌, replicate, refl}
+use Rattle.std.proofs.Common.{replicate, refl}
 use Rattle.search.specs.Arrays.{in_arrays}
 use Rattle.search.specs.Meanings.{coded}
 use Rattle.atlas.specs.Blocks.{no_form}

@@ -1,5 +1,5 @@
-use Rattle.std.proofs.Common.{◌≡◌, ℕ, ◌+◌, ◌-◌, ◌^◌, ◌<◌, ◌≤◌, min, Bool, true, false, not, sym, ap, ◌∙◌, arith}
-use Rattle.survey.specs.Without.{taken_out, taken_below}
+use Rattle.std.proofs.Common.{◌≡◌, ℕ, ◌+◌, ◌-◌, ◌^◌, ◌<◌, ◌≤◌, min, sym, ap, ◌∙◌, arith}
+use Rattle.survey.specs.Without.{taken_below}
 use Rattle.survey.proofs.TakenOut.{all_told, old_here, old_later, old_none, passes_out, passes_other}
 use Rattle.survey.proofs.without.old_number.Goals as goal
 use Rattle.survey.proofs.without.old_number.Goals.{else-not-is_out-via-then-not-is_out+else-old-ones_below, else-not-is_out-via-else-not-is_out}

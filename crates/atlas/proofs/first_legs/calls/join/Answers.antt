@@ -1,4 +1,4 @@
-use Rattle.std.proofs.Common.{◌≡◌, ◌+◌, ◌<◌, ◌≤◌, List, ◌++◌, length, get_or, drop, sym, refl, ap, ◌∙◌, arith}
+use Rattle.std.proofs.Common.{◌+◌, ◌<◌, ◌≤◌, ◌++◌, length, get_or, drop, sym, refl, ap, ◌∙◌, arith}
 use Rattle.atlas.specs.Lent.{labels_of, room_of}
 use Rattle.atlas.specs.FirstLegs.{legs_of, labels_on, missing_of, joined_labels}
 use Rattle.atlas.proofs.NotingLegs.{legs_length, legs_at}

@@ -1,7 +1,5 @@
-use Rattle.std.proofs.Common.{◌≡◌, ℕ, Bool, true, false, not, eqb, Some, sym, refl, ap, ◌∙◌, arith}
+use Rattle.std.proofs.Common.{◌≡◌, ℕ, Bool, true, false, not, eqb, sym, refl, ◌∙◌, arith}
 use Rattle.std.proofs.lemmas.Bool.Decides.{nat_tests}
-use Rattle.atlas.specs.Legends.{number_of}
-use Rattle.atlas.specs.FirstLegs.{missing_of}
 use Rattle.atlas.proofs.NotingLegs.{stays_fits, none_stays, present_stays, added_fits, added_labels, added_noted}
 use Rattle.atlas.proofs.first_legs.calls.note.Goals as goal
 use Rattle.atlas.proofs.first_legs.calls.note.Goals.{then-number-ne0-via-then-number-ne0, then-number-ne0-via-else-number-ne0+then-has}

@@ -1,6 +1,6 @@
-use Rattle.std.proofs.Common.{◌≡◌, ℕ, ◌-◌, true, false, leb, List, length, sym, refl, ap, ◌∙◌, arith, le-leb}
+use Rattle.std.proofs.Common.{◌≡◌, ℕ, ◌-◌, leb, length, sym, refl, ap, ◌∙◌, arith, le-leb}
 use Rattle.std.specs.List.{range_with_len}
-use Rattle.atlas.specs.Legends.{noted, noted_row, noted_rows}
+use Rattle.atlas.specs.Legends.{noted_row, noted_rows}
 use Rattle.atlas.specs.FirstLegs.{joined_labels, most_joined}
 use Rattle.atlas.proofs.NotingLegs.{all_fit, most_kept}
 use Rattle.atlas.proofs.Senses.{noted_rows_grown}

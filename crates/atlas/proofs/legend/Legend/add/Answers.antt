@@ -1,4 +1,4 @@
-use Rattle.std.proofs.Common.{◌≡◌, ℕ, ◌+◌, ◌<◌, ◌≤◌, min, true, false, length, take, set, sym, refl, ap, ◌∙◌, arith, length-set, le-ltb, lt-ltb}
+use Rattle.std.proofs.Common.{ℕ, ◌<◌, min, length, set, sym, ap, arith, length-set, lt-ltb}
 use Rattle.std.proofs.lemmas.List.{take_more_set}
 use Rattle.atlas.specs.Lent.{labels_of, room_of}
 use Rattle.atlas.proofs.Lending.{labels_length, room_is}

@@ -1,8 +1,7 @@
-use Rattle.std.proofs.Common.{◌≡◌, ℕ, ◌<◌, Bool, true, false, Decides, sym, ap, ◌∙◌, arith}
-use Rattle.std.specs.Option.{option_map}
+use Rattle.std.proofs.Common.{◌≡◌, arith}
 use Rattle.std.proofs.lemmas.Bool.Decides.{Decides-like, not_from_Decides}
 use Rattle.survey.specs.Carrying.{Carries}
-use Rattle.survey.specs.Pairings.{size_of, image_of}
+use Rattle.survey.specs.Pairings.{size_of}
 use Rattle.survey.proofs.Carried.{carries_by, not_decided, goes_back, maps_back, maps_compose}
 use Rattle.survey.proofs.pairing.Pairing.carries.Goals as goal
 use Rattle.survey.proofs.pairing.Pairing.carries.Goals.{then-stations-count-via-then-stations-count, then-stations-count-via-else-stations-count+then-stations-count-2}

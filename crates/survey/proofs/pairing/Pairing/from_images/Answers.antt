@@ -1,4 +1,4 @@
-use Rattle.std.proofs.Common.{◌≡◌, ℕ, ◌<◌, ◌≤◌, List, length, get_or, take, sym, refl, ap, ◌∙◌, inl, arith, length-take, get_or-take, rules}
+use Rattle.std.proofs.Common.{◌≡◌, ℕ, ◌<◌, length, get_or, take, refl, ◌∙◌, inl, arith, length-take, get_or-take}
 use Rattle.std.proofs.lemmas.List.{get_or-replicate, get_or_default, same_lists}
 use Rattle.survey.specs.Pairings.{images_of}
 use Rattle.survey.proofs.Paired.{traced_back}

@@ -1,4 +1,4 @@
-use Rattle.std.proofs.Common.{◌≡◌, ℕ, ◌<◌, sym, ap, ◌∙◌, arith, below_more}
+use Rattle.std.proofs.Common.{◌≡◌, ℕ, sym, ap, ◌∙◌, arith, below_more}
 use Rattle.survey.specs.Pairings.{size_of, image_of}
 use Rattle.survey.proofs.Carried.{size_small, listed_size, listed_image, one_fails, all_hold}
 use Rattle.survey.proofs.pairing.Pairing.keeps_kinds.Goals as goal

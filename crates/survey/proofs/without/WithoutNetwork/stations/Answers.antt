@@ -1,5 +1,5 @@
 use Rattle.std.proofs.Common.{◌≡◌, ℕ, ◌-◌, length, ap, ◌∙◌, arith}
-use Rattle.survey.specs.Without.{staying, taken_below}
+use Rattle.survey.specs.Without.{staying}
 use Rattle.survey.proofs.TakenOut.{all_told}
 use Rattle.survey.proofs.without.WithoutNetwork.stations.Goals as goal
 
