@@ -67,7 +67,7 @@ def defined():
 
 
 def turned(path, text, names):
-    """The text with its names respelled, strings and comments of src/ left alone."""
+    """The text with its names respelled, strings of src/ left alone. Comments are not told apart."""
     foreign = set()
     for module, items in USE.findall(text):
         if not module.startswith(tuple("Rattle." + crate + "." for crate in CRATES)):
