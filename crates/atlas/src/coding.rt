@@ -1,11 +1,10 @@
 // The coded network of a network: its labels by the numbers that the legend gives.
-ghost use Rattle.std.specs.Prelude.{◌≡◌, ◌<◌, ◌≤◌, length, None};
+ghost use Rattle.std.specs.Prelude.{◌≡◌, ◌≤◌, None};
 ghost use Rattle.std.specs.List.{range_with_len};
 ghost use Rattle.atlas.specs.Calls.{first_loop};
 ghost use Rattle.atlas.specs.Drafts.{Reads};
-ghost use Rattle.atlas.specs.Legends.{code_of, coded_by};
+ghost use Rattle.atlas.specs.Legends.{coded_by};
 ghost use Rattle.atlas.specs.Lent.{labels_of};
-ghost use Rattle.atlas.specs.Tables.{leg_codes, Listed, RowWritten, RowsWritten};
 ghost use Rattle.search.specs.Meanings.{coded as coded_network};
 
 use crate::coder;

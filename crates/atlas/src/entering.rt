@@ -1,5 +1,5 @@
 // Entering a network into an atlas.
-ghost use Rattle.std.specs.Prelude.{◌≡◌, ◌≤◌, length};
+ghost use Rattle.std.specs.Prelude.{◌≤◌, length};
 ghost use Rattle.atlas.specs.Answering.{Carried, KeepsLaw, entering, put_to, unmet};
 ghost use Rattle.atlas.specs.Drafts.{Drafted};
 ghost use Rattle.atlas.specs.Holding.{held_of};

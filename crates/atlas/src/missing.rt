@@ -1,5 +1,5 @@
 // The labels of a network whose senses a legend lacks.
-ghost use Rattle.std.specs.Prelude.{◌≡◌, Bool, true, cond, leb, length, nat_le};
+ghost use Rattle.std.specs.Prelude.{◌≡◌, true, leb, length, nat_le};
 ghost use Rattle.std.specs.List.{range_with_len};
 ghost use Rattle.atlas.specs.Legends.{noted, noted_row, noted_rows};
 ghost use Rattle.atlas.specs.Lent.{all_labels, most_labels};

@@ -1,5 +1,5 @@
 // Reading a network: which networks an atlas takes.
-ghost use Rattle.std.specs.Prelude.{◌≡◌, ℕ, ◌≤◌};
+ghost use Rattle.std.specs.Prelude.{◌≡◌};
 ghost use Rattle.std.specs.List.{range_with_len};
 ghost use Rattle.atlas.specs.Calls.{first_loop};
 ghost use Rattle.atlas.specs.Readings.{stations_read};

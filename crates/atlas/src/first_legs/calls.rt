@@ -1,4 +1,4 @@
-ghost use Rattle.std.specs.Prelude.{◌≡◌, ◌≤◌, Bool, true, not, leb, [], ◌∷◌, ◌++◌, length, if◌then◌else◌, ◌==◌, nat_le, nat_lt};
+ghost use Rattle.std.specs.Prelude.{◌≡◌, ◌≤◌, true, not, leb, [], ◌∷◌, ◌++◌, length, if◌then◌else◌, ◌==◌, nat_le, nat_lt};
 ghost use Rattle.std.specs.List.{range_with_len};
 ghost use Rattle.atlas.specs.Legends.{number_of, noted, noted_row, noted_rows};
 ghost use Rattle.atlas.specs.Lent.{labels_of, room_of};

@@ -1,5 +1,5 @@
 // What a legend is asked.
-ghost use Rattle.std.specs.Prelude.{◌≡◌, ℕ, ◌-◌, min, Bool, cond, [], ◌∷◌, ◌++◌, length, if◌then◌else◌, nat_lt, slice_set};
+ghost use Rattle.std.specs.Prelude.{◌≡◌, ◌-◌, min, cond, [], ◌∷◌, ◌++◌, length, if◌then◌else◌, nat_lt, slice_set};
 ghost use Rattle.atlas.specs.Legends.{number_of};
 ghost use Rattle.atlas.specs.Lent.{labels_of, room_of};
 
