@@ -69,9 +69,9 @@ fn run(rt: &HostRuntime) -> anyhow::Result<()> {
 // Prints how the two numberings pair, and whether the pairing is a map: of the legs as each party read them it is
 // none, since the parties read some from other ends, and of the legs both ways it is one.
 fn pairings(rt: &HostRuntime, spring: &Notebook, autumn: &Notebook) -> anyhow::Result<()> {
-    let Some(there) = Pairing::from_images(&SAME_STATIONS) else {
-        return Err(anyhow!("the stations do not pair"));
-    };
+    let there = Pairing::from_images(&SAME_STATIONS).ok_or_else(|| anyhow!(
+        "the stations do not pair"
+    ))?;
     let back = there.reversed();
     let both = there.then(&back)?;
     report::pairing(rt, "From spring to autumn", &there)?;

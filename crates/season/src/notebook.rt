@@ -1,12 +1,11 @@
 // A party's notebook: the stations with their kinds by word, and the legs as they were read.
-use std::alloc::{AllocError, AllocFailed, Global};
-use std::error::Error;
-use std::fmt;
+use std::alloc::{AllocError, Global};
 use std::str::FromStr;
 use survey::leg_list::{Leg, LegList};
 use survey::reading::Reading;
 use survey::refusal::Refusal;
 use survey::word::kind_of;
+use thiserror::Error;
 
 #[derive(Drop)]
 pub struct Notebook {
@@ -15,53 +14,28 @@ pub struct Notebook {
 }
 
 // What is wrong with a notebook, with the line that it stands on.
-#[derive(Debug, Drop)]
+#[derive(Debug, Drop, Error)]
 pub enum Mistake {
-    // neither a station nor a leg
+    #[error("line {line}: neither a station nor a leg")]
     NotALine { line: usize },
     // a kind that has no word
+    #[error("line {line}: no such kind of station")]
     NotAKind { line: usize },
-    // a word where a number is wanted
+    #[error("line {line}: a number is wanted")]
     NotANumber { line: usize },
     // numbers that make no reading
+    #[error("line {line}: {refusal}")]
     NotAReading { line: usize, refusal: Refusal },
-    NoMemory,
+    #[error("no memory")]
+    NoMemory(#[from(alloc)] AllocError),
 }
 
-impl From<AllocError> for Mistake {
-    fn from(_: AllocError) -> Mistake {
-        Mistake::NoMemory
-    }
-}
-
-impl<T: Drop> From<AllocFailed<T>> for Mistake {
-    fn from(_: AllocFailed<T>) -> Mistake {
-        Mistake::NoMemory
-    }
-}
-
-impl fmt::Display for Mistake {
-    fn fmt<W: fmt::Write>(&self, f: &mut fmt::Formatter<W>) -> fmt::Result {
-        match self {
-            Mistake::NotALine { line } => write!(f, "line {line}: neither a station nor a leg"),
-            Mistake::NotAKind { line } => write!(f, "line {line}: no such kind of station"),
-            Mistake::NotANumber { line } => write!(f, "line {line}: a number is wanted"),
-            Mistake::NotAReading { line, refusal } => write!(f, "line {line}: {refusal}"),
-            Mistake::NoMemory => write!(f, "no memory"),
-        }
-    }
-}
-
-impl Error for Mistake {}
-
+// Stands in the other program with a notebook too: shared, it would take a library, with a contract, for one line.
 fn number<F: FromStr>(line: usize, word: &str) -> Result<F, Mistake>
 where
     <F as FromStr>::Err: Drop,
 {
-    match word.parse::<F>() {
-        Ok(n) => Ok(n),
-        Err(_) => Err(Mistake::NotANumber { line }),
-    }
+    word.parse::<F>().map_err(|_| Mistake::NotANumber { line })
 }
 
 impl Notebook {
@@ -96,13 +70,9 @@ impl Notebook {
     }
 
     fn read_station(&mut self, line: usize, kind: &str) -> Result<(), Mistake> {
-        match kind_of(kind) {
-            Some(kind) => {
-                self.kinds.push(kind)?;
-                Ok(())
-            }
-            None => Err(Mistake::NotAKind { line }),
-        }
+        self.kinds
+            .push(kind_of(kind).ok_or(Mistake::NotAKind { line })?)?;
+        Ok(())
     }
 
     // The network that the notebook tells of.
@@ -117,11 +87,10 @@ fn read_label(
     bearing: &str,
     gradient: &str,
 ) -> Result<Reading, Mistake> {
-    let length = number(line, length)?;
-    let bearing = number(line, bearing)?;
-    let gradient = number(line, gradient)?;
-    match Reading::new(length, bearing, gradient) {
-        Ok(label) => Ok(label),
-        Err(refusal) => Err(Mistake::NotAReading { line, refusal }),
-    }
+    Reading::new(
+        number(line, length)?,
+        number(line, bearing)?,
+        number(line, gradient)?,
+    )
+    .map_err(|refusal| Mistake::NotAReading { line, refusal })
 }

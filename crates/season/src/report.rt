@@ -13,6 +13,7 @@ pub fn network<N: Network<Label = Reading>>(
 ) -> io::Result<()> {
     let count = net.stations();
     println!(rt; "{title}: {count} stations")?;
+    // A network holds no list of its stations to go through: it is asked by their numbers.
     for u in 0..count {
         let kind = word(net.kind(u));
         println!(rt; "  station {u}, {kind}")?;
@@ -22,6 +23,7 @@ pub fn network<N: Network<Label = Reading>>(
 }
 
 fn legs_from<N: Network<Label = Reading>>(rt: &HostRuntime, net: &N, u: u16) -> io::Result<()> {
+    // By number, as above: a chain that keeps each number with its leg is longer.
     for v in 0..net.stations() {
         if let Some(reading) = net.leg(u, v) {
             println!(rt; "    to {v}: {reading}")?;

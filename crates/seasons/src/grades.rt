@@ -7,12 +7,10 @@
 use crate::fault::Fault;
 use crate::season::{Question, Sheet};
 use crate::words::Words;
-use atlas::Atlas;
 use atlas::answer::Answer;
 use std::alloc::Global;
 use survey::grade::Grade;
 use survey::grade_table::GradeTable;
-use survey::pairing::Pairing;
 use survey::refusal::Refusal;
 
 // The bytes of a table.
@@ -29,10 +27,13 @@ pub struct GradeSheet {
 
 // The grades of so many stations, as a table has them: a row ends where the table has no more place.
 fn table_of(count: usize, grades: &[u8]) -> Option<[u8; TABLE]> {
+    if grades.len() != count.checked_mul(count)? {
+        return None;
+    }
     let mut table = [0; TABLE];
-    for u in 0..count.min(ROW) {
-        for v in 0..count.min(ROW) {
-            table[ROW * u + v] = *grades.get(count.checked_mul(u)?.checked_add(v)?)?;
+    for (row, grades) in table.chunks_mut(ROW).zip(grades.chunks(count.max(1))) {
+        for (place, grade) in row.iter_mut().zip(grades) {
+            *place = *grade;
         }
     }
     Some(table)
@@ -47,20 +48,14 @@ impl Sheet for GradeSheet {
         let count = words.number::<usize>()?;
         let kinds = words.bytes(heap)?;
         let grades = words.bytes(heap)?;
-        let table = table_of(count, grades.as_slice()).ok_or(words.fault())?;
+        let table = table_of(count, grades.as_slice()).ok_or_else(|| words.fault())?;
         if kinds.len() != count {
             return Err(words.fault());
         }
         Ok(GradeSheet { kinds, table })
     }
 
-    fn put(
-        &self,
-        question: Question,
-        atlas: &mut Atlas<'_, Grade>,
-        place: &mut Pairing,
-    ) -> Result<Answer, Refusal> {
-        let table = GradeTable::new(self.kinds.as_slice(), &self.table);
-        question.put(&table, atlas, place)
+    fn put(&self, question: Question<'_, '_, Grade>) -> Result<Answer, Refusal> {
+        question.put(&GradeTable::new(self.kinds.as_slice(), &self.table))
     }
 }

@@ -8,13 +8,11 @@
 use crate::fault::Fault;
 use crate::season::{Question, Sheet};
 use crate::words::{Words, parsed};
-use atlas::Atlas;
 use atlas::answer::Answer;
 use std::alloc::Global;
 use survey::both_ways::BothWays;
 use survey::leg_list::{Leg, LegList};
 use survey::network::Network;
-use survey::pairing::Pairing;
 use survey::reading::Reading;
 use survey::refusal::Refusal;
 use survey::turned::Turned;
@@ -39,7 +37,8 @@ impl Layer {
     }
 }
 
-// At most two layers: the lower lies on the list, the upper on the lower.
+// At most two layers: the lower lies on the list, the upper on the lower. Each layer makes a network of another type, so
+// that a list of any length would be of endless types.
 #[derive(Clone, Copy)]
 enum Layers {
     None,
@@ -66,17 +65,15 @@ impl Layers {
 fn put_through<N: Network<Label = Reading>>(
     net: N,
     layer: Layer,
-    question: Question,
-    atlas: &mut Atlas<'_, Reading>,
-    place: &mut Pairing,
+    question: Question<'_, '_, Reading>,
 ) -> Result<Answer, Refusal>
 where
     N: Drop,
 {
     match layer {
-        Layer::Turned => question.put(&Turned::new(net), atlas, place),
-        Layer::BothWays => question.put(&BothWays::new(net), atlas, place),
-        Layer::Without { mask } => question.put(&Without::new(net, mask), atlas, place),
+        Layer::Turned => question.put(&Turned::new(net)),
+        Layer::BothWays => question.put(&BothWays::new(net)),
+        Layer::Without { mask } => question.put(&Without::new(net, mask)),
     }
 }
 
@@ -85,16 +82,12 @@ fn put_through_both(
     list: LegList<'_, Reading>,
     lower: Layer,
     upper: Layer,
-    question: Question,
-    atlas: &mut Atlas<'_, Reading>,
-    place: &mut Pairing,
+    question: Question<'_, '_, Reading>,
 ) -> Result<Answer, Refusal> {
     match lower {
-        Layer::Turned => put_through(Turned::new(list), upper, question, atlas, place),
-        Layer::BothWays => put_through(BothWays::new(list), upper, question, atlas, place),
-        Layer::Without { mask } => {
-            put_through(Without::new(list, mask), upper, question, atlas, place)
-        }
+        Layer::Turned => put_through(Turned::new(list), upper, question),
+        Layer::BothWays => put_through(BothWays::new(list), upper, question),
+        Layer::Without { mask } => put_through(Without::new(list, mask), upper, question),
     }
 }
 
@@ -119,10 +112,10 @@ fn read_leg(text: &str) -> Option<Leg<Reading>> {
 }
 
 fn read_legs(heap: Global, words: Words<'_>) -> Result<Vec<Leg<Reading>>, Fault> {
-    let fault = words.fault();
+    let line = words.line();
     let mut legs = Vec::new(heap);
     for text in words.rest() {
-        legs.push(read_leg(text).ok_or(fault)?)?;
+        legs.push(read_leg(text).ok_or(Fault::Unreadable { line })?)?;
     }
     Ok(legs)
 }
@@ -137,7 +130,7 @@ impl Sheet for ReadingSheet {
     };
 
     fn read(heap: Global, mut words: Words<'_>) -> Result<ReadingSheet, Fault> {
-        let layers = Layers::read(words.word()?).ok_or(words.fault())?;
+        let layers = Layers::read(words.word()?).ok_or_else(|| words.fault())?;
         let kinds = words.bytes(heap)?;
         let legs = read_legs(heap, words)?;
         Ok(ReadingSheet {
@@ -147,19 +140,12 @@ impl Sheet for ReadingSheet {
         })
     }
 
-    fn put(
-        &self,
-        question: Question,
-        atlas: &mut Atlas<'_, Reading>,
-        place: &mut Pairing,
-    ) -> Result<Answer, Refusal> {
+    fn put(&self, question: Question<'_, '_, Reading>) -> Result<Answer, Refusal> {
         let list = LegList::new(self.kinds.as_slice(), self.legs.as_slice());
         match self.layers {
-            Layers::None => question.put(&list, atlas, place),
-            Layers::One(layer) => put_through(list, layer, question, atlas, place),
-            Layers::Two { lower, upper } => {
-                put_through_both(list, lower, upper, question, atlas, place)
-            }
+            Layers::None => question.put(&list),
+            Layers::One(layer) => put_through(list, layer, question),
+            Layers::Two { lower, upper } => put_through_both(list, lower, upper, question),
         }
     }
 }

@@ -14,6 +14,7 @@ use crate::words::Words;
 use atlas::Atlas;
 use atlas::answer::Answer;
 use atlas::block::BLOCK;
+use atlas::request::Ask;
 use std::alloc::Global;
 use std::{fs, io};
 use survey::label::Label;
@@ -31,47 +32,31 @@ pub trait Sheet: Drop {
     // Reads the sheet from the rest of a line.
     fn read(heap: Global, words: Words<'_>) -> Result<Self, Fault>;
 
-    // Puts the network to the atlas; the place is for a map.
-    fn put(
-        &self,
-        question: Question,
-        atlas: &mut Atlas<'_, Self::Label>,
-        place: &mut Pairing,
-    ) -> Result<Answer, Refusal>;
+    // Puts the network to the atlas.
+    fn put(&self, question: Question<'_, '_, Self::Label>) -> Result<Answer, Refusal>;
 }
 
-// Whether a network may be numbered, or is only looked for.
-#[derive(Clone, Copy)]
-enum Verb {
-    Enter,
-    Find,
-}
-
-// What is asked of a network, with so many trials allowed.
-#[derive(Clone, Copy)]
-pub struct Question {
-    verb: Verb,
+// What is asked of a network, with so many trials allowed: by an atlas, with a place for a map.
+#[derive(Drop)]
+pub struct Question<'a, 'b, L> {
+    ask: Ask,
     allowance: u32,
+    atlas: &'a mut Atlas<'b, L>,
+    place: &'a mut Pairing,
 }
 
-impl Question {
-    fn read(verb: Verb, words: &mut Words<'_>) -> Result<Question, Fault> {
-        Ok(Question {
-            verb,
-            allowance: words.number()?,
-        })
-    }
-
-    // Puts a network to the atlas; the place is for a map.
-    pub fn put<L: Label, N: Network<Label = L>>(
-        self,
-        net: &N,
-        atlas: &mut Atlas<'_, L>,
-        place: &mut Pairing,
-    ) -> Result<Answer, Refusal> {
-        match self.verb {
-            Verb::Enter => atlas.enter(net, self.allowance, place),
-            Verb::Find => atlas.find(net, self.allowance, place),
+impl<'a, 'b, L: Label> Question<'a, 'b, L> {
+    // Puts a network to the atlas.
+    pub fn put<N: Network<Label = L>>(self, net: &N) -> Result<Answer, Refusal> {
+        let Question {
+            ask,
+            allowance,
+            atlas,
+            place,
+        } = self;
+        match ask {
+            Ask::Enter => atlas.enter(net, allowance, place),
+            Ask::Find => atlas.find(net, allowance, place),
         }
     }
 }
@@ -79,15 +64,15 @@ impl Question {
 // A line of a season.
 #[derive(Drop)]
 enum Call<S: Sheet> {
-    Put { question: Question, sheet: S },
+    Put { ask: Ask, allowance: u32, sheet: S },
     Classes { form: u8, station: u16 },
 }
 
 impl<S: Sheet> Call<S> {
     fn read(heap: Global, mut words: Words<'_>) -> Result<Call<S>, Fault> {
         match words.word()? {
-            "enter" => Self::read_put(heap, Verb::Enter, words),
-            "find" => Self::read_put(heap, Verb::Find, words),
+            "enter" => Self::read_put(heap, Ask::Enter, words),
+            "find" => Self::read_put(heap, Ask::Find, words),
             "classes" => Ok(Call::Classes {
                 form: words.number()?,
                 station: words.number()?,
@@ -96,9 +81,10 @@ impl<S: Sheet> Call<S> {
         }
     }
 
-    fn read_put(heap: Global, verb: Verb, mut words: Words<'_>) -> Result<Call<S>, Fault> {
+    fn read_put(heap: Global, ask: Ask, mut words: Words<'_>) -> Result<Call<S>, Fault> {
         Ok(Call::Put {
-            question: Question::read(verb, &mut words)?,
+            ask,
+            allowance: words.number()?,
             sheet: S::read(heap, words)?,
         })
     }
@@ -155,9 +141,19 @@ fn work<S: Sheet>(
     call: &Call<S>,
 ) -> io::Result<()> {
     match call {
-        Call::Put { question, sheet } => {
+        Call::Put {
+            ask,
+            allowance,
+            sheet,
+        } => {
             let mut place = Pairing::empty();
-            match sheet.put(*question, atlas, &mut place) {
+            let question = Question {
+                ask: *ask,
+                allowance: *allowance,
+                atlas,
+                place: &mut place,
+            };
+            match sheet.put(question) {
                 Ok(answer) => print_answer(rt, answer, &place),
                 Err(refusal) => print_refusal(rt, refusal),
             }

@@ -1,5 +1,6 @@
 // The words of a line, read one after another.
 use crate::fault::Fault;
+use hex::decode_to_slice;
 use std::alloc::Global;
 use std::str::{FromStr, SplitWhitespace};
 
@@ -8,22 +9,6 @@ use std::str::{FromStr, SplitWhitespace};
 pub struct Words<'a> {
     line: usize,
     words: SplitWhitespace<'a>,
-}
-
-fn digit(byte: u8) -> Option<u8> {
-    match byte {
-        b'0'..=b'9' => Some(byte - b'0'),
-        b'a'..=b'f' => Some(byte - b'a' + 10),
-        _ => None,
-    }
-}
-
-// The byte that a pair of hex digits stands for.
-fn byte_of(pair: &[u8]) -> Option<u8> {
-    let [high, low] = pair else {
-        return None;
-    };
-    digit(*high)?.checked_mul(16)?.checked_add(digit(*low)?)
 }
 
 // The number that a text stands for.
@@ -42,6 +27,10 @@ impl<'a> Words<'a> {
         }
     }
 
+    pub fn line(&self) -> usize {
+        self.line
+    }
+
     // The complaint about this line.
     pub fn fault(&self) -> Fault {
         Fault::Unreadable { line: self.line }
@@ -53,26 +42,24 @@ impl<'a> Words<'a> {
     }
 
     pub fn word(&mut self) -> Result<&'a str, Fault> {
-        self.words.next().ok_or(self.fault())
+        self.words.next().ok_or_else(|| self.fault())
     }
 
     pub fn number<F: FromStr>(&mut self) -> Result<F, Fault>
     where
         <F as FromStr>::Err: Drop,
     {
-        parsed(self.words.next()).ok_or(self.fault())
+        parsed(self.words.next()).ok_or_else(|| self.fault())
     }
 
     // Bytes written with two hex digits each, or `-` for none.
     pub fn bytes(&mut self, heap: Global) -> Result<Vec<u8>, Fault> {
-        let mut bytes = Vec::new(heap);
         let word = self.word()?;
         if word == "-" {
-            return Ok(bytes);
+            return Ok(Vec::new(heap));
         }
-        for pair in word.as_bytes().chunks(2) {
-            bytes.push(byte_of(pair).ok_or(self.fault())?)?;
-        }
+        let mut bytes = vec![in heap; 0; word.len() / 2]?;
+        decode_to_slice(word, bytes.as_mut_slice()).map_err(|_| self.fault())?;
         Ok(bytes)
     }
 }

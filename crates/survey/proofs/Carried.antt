@@ -9,11 +9,6 @@ use Rattle.survey.specs.Pairings.{size_of, image_of, images_of}
 use Rattle.survey.specs.declared.pairing.Pairing.{Pairing}
 use Rattle.survey.proofs.Paired.{images_length, images_at, image_below, pairing_stands}
 
--- a pairing has at most 64 stations
-pub size_small : (p : Pairing) → size_of p ≤ 64
-unfolding size_of
-size_small p = p.small
-
 -- the images that are read in place are as many as the stations
 pub listed_size : (p : Pairing) (xs : List ℕ) → xs ≡ images_of p → length xs ≡ size_of p
 listed_size p xs e = ap length e ∙ images_length p
@@ -29,10 +24,6 @@ one_fails P n k h not-it = ((λ e. let z : ◌≡◌ {A = ℕ} 0 1 = cc in absur
 -- a fact that holds up to the end holds of all
 pub all_hold : (P : ℕ → Type 0) (n i : ℕ) → n ≤ i → ((k : ℕ) → k < i → P k) → Decides true ((u : ℕ) → u < n → P u)
 all_hold P n i h all = ((λ e u l. all u (omega arith)), (λ _. refl))
-
--- what does not hold is decided by no
-pub not_decided : (P : Type 0) → (P → ⊥) → Decides false P
-not_decided P not-it = ((λ e. let z : ◌≡◌ {A = ℕ} 0 1 = cc in absurd (omega arith)), (λ p. absurd (not-it p)))
 
 module _ {L : Type 0} (sense : L → List ℤ) where
   -- a pairing of the stations that keeps kinds and legs is a map

@@ -1,5 +1,3 @@
-pub mod FirstRecord
-pub mod MapsOfLayers
 pub mod TakenOut
 pub mod Pigeonhole
 pub mod Paired

@@ -139,6 +139,15 @@ module _ (mask : ℕ) where
   unfolding old_station
   old_none n w h = sym (get_or_past (staying mask n) w n (omega (arith, all_told n)))
 
+  -- past the stations below k that are looked through, the old number is told by how many are taken out in all
+  pub old_past :
+      (k n w : ℕ) → mask < 2 ^ k → min n k - taken_below mask (min n k) ≤ w → min (w + taken_below mask n) n ≡ old_station mask n w
+  old_past k n w h l = go (cases_lt (w + taken_below mask n) n)
+    where
+      go : (w + taken_below mask n < n) ⊎ (n ≤ w + taken_below mask n) → min (w + taken_below mask n) n ≡ old_station mask n w
+      go (inl t) = let e : min (w + taken_below mask n) n ≡ w + taken_below mask n = omega arith in e ∙ old_later k n w h l t
+      go (inr b) = let e : min (w + taken_below mask n) n ≡ n = omega arith in e ∙ old_none n w b
+
   -- where no station up to u has the number w, none up to the next has
   pub passes_out : (u w : ℕ) → taken_out mask u ≡ true → u - taken_below mask u ≤ w → u + 1 - taken_below mask (u + 1) ≤ w
   passes_out u w out l =

@@ -18,6 +18,11 @@ as_bearing n = min n 3599
 abbrev pub as_gradient : ℤ → ℤ
 as_gradient z = int_max (negsuc 899) (int_min z (pos 900))
 
+-- the reading as it counts: each number at the end of its range where it lies beyond
+abbrev pub reading_within : Reading → Reading
+reading_within r =
+    record { length = as_length r.length; bearing = as_bearing r.bearing; gradient = as_gradient r.gradient }
+
 -- the sense of a reading is its three numbers
 abbrev pub reading_sense : Reading → List ℤ
 reading_sense r = pos (as_length r.length) ∷ pos (as_bearing r.bearing) ∷ as_gradient r.gradient ∷ []

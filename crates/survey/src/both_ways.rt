@@ -37,12 +37,8 @@ impl<N: Network> Network for BothWays<N> {
     }
 
     fn leg(&self, from: u16, to: u16) -> Option<N::Label> {
-        if let Some(label) = self.below.leg(from, to) {
-            return Some(label);
-        }
-        match self.below.leg(to, from) {
-            Some(label) => Some(label.turn()),
-            None => None,
-        }
+        self.below
+            .leg(from, to)
+            .or_else(|| self.below.leg(to, from).map(|label| label.turn()))
     }
 }

@@ -47,14 +47,9 @@ impl<'a> Network for GradeTable<'a> {
             return None;
         }
         let place = Self::ROW as usize * from as usize + to as usize;
-        if place >= self.bytes.len() {
-            return None;
-        }
-        let value = self.bytes[place];
-        if value == 0 {
-            None
-        } else {
-            Some(Grade { value })
+        match self.bytes.get(place) {
+            None | Some(0) => None,
+            Some(value) => Some(Grade { value: *value }),
         }
     }
 }

@@ -12,7 +12,7 @@ pub(crate) fn counted(kinds: &[u8]) -> u16
     kinds.len().min(MOST_STATIONS) as u16
 }
 
-// The kind of a station, 0 where it is not there.
+// The kind of a station, 0 where it is not there: a rule of all networks, of which one is asked of any number.
 pub(crate) fn kind_at(kinds: &[u8], station: u16) -> u8
     ensures { result ≡ kind_listed kinds.now station }
 {

@@ -35,9 +35,9 @@ impl<'a, L: Label> LegList<'a, L> {
 fn first_record_of<L: Label>(legs: &[Leg<L>], from: u16, to: u16) -> Option<L>
     ensures { result ≡ first_record legs.now from to }
 {
-    for (i, record) in legs.iter().enumerate() {
+    for record in legs {
         if record.from == from && record.to == to {
-            return Some(legs[i].label);
+            return Some(record.label);
         }
     }
     None

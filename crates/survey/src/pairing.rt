@@ -6,7 +6,8 @@ pub mod calls;
 pub const MOST: usize = 64;
 
 // A pairing of 0 to 64 stations with as many, one-to-one and onto. The ghost fields say so of every value: from
-// each station to its image and back, and from each image to its source and back.
+// each station to its image and back, and from each image to its source and back. It is copied freely and allocates
+// nothing, so that its lists are arrays of the largest size with the count beside.
 #[derive(Clone, Copy)]
 pub struct Pairing {
     count: usize,

@@ -1,6 +1,6 @@
 // Labels read off tape, compass and clinometer.
 ghost use Rattle.std.specs.Prelude.{◌≡◌, Some};
-ghost use Rattle.survey.specs.Readings.{reading_sense, reading_turned, reading_made, reading_text};
+ghost use Rattle.survey.specs.Readings.{reading_within, reading_sense, reading_turned, reading_made, reading_text};
 ghost use Rattle.std.proofs.Common.{rules};
 
 use crate::label::Label;
@@ -43,6 +43,17 @@ impl Reading {
             gradient,
         })
     }
+
+    // The reading as it counts: each number at the end of its range where it lies beyond.
+    fn within(&self) -> Reading
+        ensures { result ≡ reading_within self.now }
+    {
+        Reading {
+            length: self.length.min(Self::LONGEST),
+            bearing: self.bearing.min(Self::LAST_BEARING),
+            gradient: self.gradient.clamp(-Self::STEEPEST, Self::STEEPEST),
+        }
+    }
 }
 
 impl Label for Reading {
@@ -55,28 +66,24 @@ impl Label for Reading {
     ghost turns_back = { Prim.search rules };
 
     fn same(&self, other: &Reading) -> bool {
-        if self.length.min(Self::LONGEST) != other.length.min(Self::LONGEST) {
-            return false;
-        }
-        if self.bearing.min(Self::LAST_BEARING) != other.bearing.min(Self::LAST_BEARING) {
-            return false;
-        }
-        let own = self.gradient.clamp(-Self::STEEPEST, Self::STEEPEST);
-        let its = other.gradient.clamp(-Self::STEEPEST, Self::STEEPEST);
-        own == its
+        self.within() == other.within()
     }
 
     fn turn(&self) -> Reading {
-        let bearing = self.bearing.min(Self::LAST_BEARING);
+        let Reading {
+            length,
+            bearing,
+            gradient,
+        } = self.within();
         let bearing = if bearing < Self::HALF_TURN {
             bearing + Self::HALF_TURN
         } else {
             bearing - Self::HALF_TURN
         };
         Reading {
-            length: self.length.min(Self::LONGEST),
+            length,
             bearing,
-            gradient: -self.gradient.clamp(-Self::STEEPEST, Self::STEEPEST),
+            gradient: -gradient,
         }
     }
 }

@@ -38,9 +38,6 @@ impl<N: Network> Network for Turned<N> {
     }
 
     fn leg(&self, from: u16, to: u16) -> Option<N::Label> {
-        match self.below.leg(to, from) {
-            Some(label) => Some(label.turn()),
-            None => None,
-        }
+        self.below.leg(to, from).map(|label| label.turn())
     }
 }

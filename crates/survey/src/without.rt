@@ -33,10 +33,12 @@ fn ones_below(mask: u64, station: u16) -> u16
     }
 }
 
-// What a station's number was among `count` stations, or `count` where it was none.
+// What a station's number was among `count` stations, or `count` where it was none: past the last, where the
+// network below has neither kind nor legs, so that no caller needs to tell the cases apart.
 fn old_number(mask: u64, count: u16, station: u16) -> u16
     ensures { result ≡ old_station mask count station }
 {
+    // The numbers themselves are tried, and no list is gone through.
     for old in 0..count.min(BITS) {
         if !is_out(mask, old) && old - ones_below(mask, old) == station {
             return old;
@@ -44,11 +46,7 @@ fn old_number(mask: u64, count: u16, station: u16) -> u16
     }
     // Every station past the last bit stays, so the numbers there differ by all that are taken out.
     let old = station as u32 + ones_below(mask, count) as u32;
-    if old < count as u32 {
-        old as u16
-    } else {
-        count
-    }
+    old.min(count as u32) as u16
 }
 
 impl<N: Network> Without<N> {

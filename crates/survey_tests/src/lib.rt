@@ -17,6 +17,7 @@ mod tests {
     use survey::without::Without;
     use survey::word::{kind_of, word};
 
+    // A leg of a grade, as the tables below write it; the other crate that wants one has it as it needs it.
     const fn leg(from: u16, to: u16, value: u8) -> Leg<Grade> {
         Leg {
             from,

@@ -1,47 +1,22 @@
 // What is wrong with the text of a season, with the line that it stands on.
-use std::alloc::{AllocError, AllocFailed};
-use std::error::Error;
-use std::fmt;
+use std::alloc::AllocError;
 use survey::refusal::Refusal;
+use thiserror::Error;
 
-#[derive(Debug, Drop)]
+#[derive(Debug, Drop, Error)]
 pub enum Mistake {
-    // not a line of a season
+    #[error("line {line}: not a line of a season")]
     NotALine { line: usize },
     // a kind that has no word
+    #[error("line {line}: no such kind of station")]
     NotAKind { line: usize },
-    // a word where a number is wanted
+    #[error("line {line}: a number is wanted")]
     NotANumber { line: usize },
-    // a name that no notebook has
+    #[error("line {line}: no such notebook")]
     NoSuchBook { line: usize },
     // numbers that make no label
+    #[error("line {line}: {refusal}")]
     Refused { line: usize, refusal: Refusal },
-    NoMemory,
+    #[error("no memory")]
+    NoMemory(#[from(alloc)] AllocError),
 }
-
-impl From<AllocError> for Mistake {
-    fn from(_: AllocError) -> Mistake {
-        Mistake::NoMemory
-    }
-}
-
-impl<T: Drop> From<AllocFailed<T>> for Mistake {
-    fn from(_: AllocFailed<T>) -> Mistake {
-        Mistake::NoMemory
-    }
-}
-
-impl fmt::Display for Mistake {
-    fn fmt<W: fmt::Write>(&self, f: &mut fmt::Formatter<W>) -> fmt::Result {
-        match self {
-            Mistake::NotALine { line } => write!(f, "line {line}: not a line of a season"),
-            Mistake::NotAKind { line } => write!(f, "line {line}: no such kind of station"),
-            Mistake::NotANumber { line } => write!(f, "line {line}: a number is wanted"),
-            Mistake::NoSuchBook { line } => write!(f, "line {line}: no such notebook"),
-            Mistake::Refused { line, refusal } => write!(f, "line {line}: {refusal}"),
-            Mistake::NoMemory => write!(f, "no memory"),
-        }
-    }
-}
-
-impl Error for Mistake {}

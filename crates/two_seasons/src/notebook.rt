@@ -2,6 +2,7 @@
 use crate::mistake::Mistake;
 use crate::written::{Written, number};
 use std::alloc::Global;
+use std::iter;
 use survey::label::Label;
 use survey::leg_list::{Leg, LegList};
 use survey::word::kind_of;
@@ -31,20 +32,14 @@ impl<L: Written + Drop> Notebook<L> {
 
     // One station more, numbered in the order of the lines.
     pub fn add_station(&mut self, line: usize, kind: &str) -> Result<(), Mistake> {
-        match kind_of(kind) {
-            Some(kind) => {
-                self.kinds.push(kind)?;
-                Ok(())
-            }
-            None => Err(Mistake::NotAKind { line }),
-        }
+        self.kinds
+            .push(kind_of(kind).ok_or(Mistake::NotAKind { line })?)?;
+        Ok(())
     }
 
     // So many plain stations more.
     pub fn add_plain(&mut self, count: u16) -> Result<(), Mistake> {
-        for _ in 0..count {
-            self.kinds.push(0)?;
-        }
+        self.kinds.extend(iter::repeat_n(0, count as usize))?;
         Ok(())
     }
 

@@ -99,9 +99,7 @@ impl<L: Written + Drop> Plan<L> {
 
     // A line of the notebook that was begun last.
     fn add_to_book(&mut self, line: usize, words: &[&str]) -> Result<(), Mistake> {
-        let Some(book) = self.books.last_mut() else {
-            return Err(Mistake::NotALine { line });
-        };
+        let book = self.books.last_mut().ok_or(Mistake::NotALine { line })?;
         match words {
             ["station", kind] => book.add_station(line, kind),
             ["plain", count] => book.add_plain(number(line, count)?),
@@ -154,12 +152,11 @@ impl<L: Written + Drop> Plan<L> {
     }
 
     fn book_named(&self, line: usize, name: &str) -> Result<usize, Mistake> {
-        for (i, known) in self.names.as_slice().iter().enumerate() {
-            if known.as_str() == name {
-                return Ok(i);
-            }
-        }
-        Err(Mistake::NoSuchBook { line })
+        self.names
+            .as_slice()
+            .iter()
+            .position(|known| known.as_str() == name)
+            .ok_or(Mistake::NoSuchBook { line })
     }
 
     pub fn books(&self) -> &[Notebook<L>] {

@@ -100,16 +100,15 @@ fn class(rt: &HostRuntime, bits: u64, station: u16) -> io::Result<()> {
         return Ok(());
     }
     print!(rt; " [")?;
-    for u in 0..64u32 {
-        if bits.checked_shr(u).unwrap_or(0) % 2 == 1 {
-            print!(rt; " {u}")?;
-        }
+    for u in (0..u64::BITS).filter(|u| bits.checked_shr(*u).unwrap_or(0) % 2 == 1) {
+        print!(rt; " {u}")?;
     }
     print!(rt; " ]")
 }
 
 // Prints for each form the classes of stations that cannot be told apart.
 pub fn forms<L: Label>(rt: &HostRuntime, atlas: &Atlas<'_, L>) -> io::Result<()> {
+    // Forms and stations are asked for by their numbers, up to the first that is refused: an atlas lends no list of them.
     for form in 1..=200u8 {
         if atlas.classes(form, 0).is_err() {
             return Ok(());

@@ -5,15 +5,13 @@ use survey::grade::Grade;
 use survey::label::Label;
 use survey::reading::Reading;
 
-// A number of some kind, or which line lacks one.
+// A number of some kind, or which line lacks one. It stands in the other program with a notebook too: shared, it would
+// take a library, with a contract, for one line.
 pub fn number<F: FromStr>(line: usize, word: &str) -> Result<F, Mistake>
 where
     <F as FromStr>::Err: Drop,
 {
-    match word.parse::<F>() {
-        Ok(n) => Ok(n),
-        Err(_) => Err(Mistake::NotANumber { line }),
-    }
+    word.parse::<F>().map_err(|_| Mistake::NotANumber { line })
 }
 
 // A kind of label that can be read from words.
@@ -31,10 +29,7 @@ impl Written for Grade {
         let [value] = words else {
             return Err(Mistake::NotALine { line });
         };
-        match Grade::new(number(line, value)?) {
-            Ok(label) => Ok(label),
-            Err(refusal) => Err(Mistake::Refused { line, refusal }),
-        }
+        Grade::new(number(line, value)?).map_err(|refusal| Mistake::Refused { line, refusal })
     }
 }
 
@@ -50,12 +45,11 @@ impl Written for Reading {
         let [length, bearing, gradient] = words else {
             return Err(Mistake::NotALine { line });
         };
-        let length = number(line, length)?;
-        let bearing = number(line, bearing)?;
-        let gradient = number(line, gradient)?;
-        match Reading::new(length, bearing, gradient) {
-            Ok(label) => Ok(label),
-            Err(refusal) => Err(Mistake::Refused { line, refusal }),
-        }
+        Reading::new(
+            number(line, length)?,
+            number(line, bearing)?,
+            number(line, gradient)?,
+        )
+        .map_err(|refusal| Mistake::Refused { line, refusal })
     }
 }

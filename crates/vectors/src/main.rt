@@ -4,7 +4,7 @@
 
 mod line;
 
-use line::{Fault, Task};
+use line::Task;
 use search::answer::Answer;
 use search::coded::CodedNetwork;
 use search::searching::search;
@@ -36,10 +36,8 @@ fn print_search(
 fn print_classes(rt: &HostRuntime, network: &CodedNetwork) -> io::Result<()> {
     let classes = network.classes();
     print!(rt; "classes")?;
-    for u in 0..network.count() {
-        if let Some(mask) = classes.class_of(u) {
-            print!(rt; " {mask}")?;
-        }
+    for mask in (0..network.count()).filter_map(|u| classes.class_of(u)) {
+        print!(rt; " {mask}")?;
     }
     println!(rt; "")
 }
@@ -47,7 +45,7 @@ fn print_classes(rt: &HostRuntime, network: &CodedNetwork) -> io::Result<()> {
 fn run(rt: &HostRuntime) -> anyhow::Result<()> {
     let text = fs::read_to_string(rt, "tasks.txt")?;
     for line in text.as_str().lines() {
-        match Task::read(line)? {
+        match line.parse::<Task>()? {
             Task::Search {
                 allowance,
                 form,

@@ -11,7 +11,7 @@ use atlas::answer::Answer;
 use atlas::block::BLOCK;
 use memory::{BYTES, LABELS, old_map};
 use networks::{ring_of_six, triangle, two_grades};
-use outcome::{Outcome, Surprise};
+use outcome::{Outcome, Surprise, Told};
 use survey::both_ways::BothWays;
 use survey::grade::Grade;
 use survey::leg_list::LegList;
@@ -23,27 +23,28 @@ use survey::without::Without;
 const ALLOWANCE: u32 = 0;
 
 // What the first network of an atlas is answered.
-const FIRST: Outcome = Outcome::Answered(Answer::New { form: 1, trials: 0 });
+const FIRST: Outcome = Ok(Answer::New { form: 1, trials: 0 });
 
 // What a network of the first form is answered later.
-const FIRST_AGAIN: Outcome = Outcome::Answered(Answer::Known { form: 1, trials: 0 });
+const FIRST_AGAIN: Outcome = Ok(Answer::Known { form: 1, trials: 0 });
 
-// Complains where a call came to something else than it should.
-fn expect(outcome: Outcome, expected: Outcome) -> Result<(), Surprise> {
-    if outcome == expected {
+// Complains where what is found is not what is wanted.
+fn expect<T: PartialEq>(found: &T, wanted: &T, otherwise: Surprise) -> Result<(), Surprise> {
+    if found == wanted {
         Ok(())
     } else {
-        Err(Surprise::OtherOutcome)
+        Err(otherwise)
     }
 }
 
 // Complains where memory is not as it should be after a call that is refused.
 fn expect_same<T: PartialEq>(after: &T, before: &T) -> Result<(), Surprise> {
-    if after == before {
-        Ok(())
-    } else {
-        Err(Surprise::RefusedCallWrote)
-    }
+    expect(after, before, Surprise::RefusedCallWrote)
+}
+
+// Complains where a call came to something else than it should.
+fn expect_outcome(outcome: Outcome, wanted: Outcome) -> Result<(), Surprise> {
+    expect(&outcome, &wanted, Surprise::OtherOutcome)
 }
 
 // Enters a network, which should be taken as the first, into an atlas of its own.
@@ -52,9 +53,9 @@ fn taken<N: Network<Label = Grade>>(rt: &HostRuntime, title: &str, net: &N) -> a
     let mut labels = LABELS;
     let mut map = old_map()?;
     let mut atlas = Atlas::open(&mut bytes, &mut labels);
-    let outcome = Outcome::of(atlas.enter(net, ALLOWANCE, &mut map));
-    println!(rt; "{title}: {outcome}")?;
-    expect(outcome, FIRST)?;
+    let outcome = atlas.enter(net, ALLOWANCE, &mut map);
+    println!(rt; "{title}: {}", Told(outcome))?;
+    expect_outcome(outcome, FIRST)?;
     Ok(())
 }
 
@@ -69,9 +70,9 @@ fn refused<N: Network<Label = Grade>>(
     let mut labels = LABELS;
     let mut map = old_map()?;
     let mut atlas = Atlas::open(&mut bytes, &mut labels);
-    let outcome = Outcome::of(atlas.enter(net, ALLOWANCE, &mut map));
-    print!(rt; "{title}: {outcome}")?;
-    expect(outcome, Outcome::Refused(refusal))?;
+    let outcome = atlas.enter(net, ALLOWANCE, &mut map);
+    print!(rt; "{title}: {}", Told(outcome))?;
+    expect_outcome(outcome, Err(refusal))?;
     expect_same(&bytes, &BYTES)?;
     expect_same(&labels, &LABELS)?;
     expect_same(&map, &old_map()?)?;
@@ -113,7 +114,7 @@ fn memory_with<N: Network<Label = Grade>>(net: &N) -> anyhow::Result<([u8; BLOCK
     let mut labels = LABELS;
     let mut map = old_map()?;
     let mut atlas = Atlas::open(&mut bytes, &mut labels);
-    expect(Outcome::of(atlas.enter(net, ALLOWANCE, &mut map)), FIRST)?;
+    expect_outcome(atlas.enter(net, ALLOWANCE, &mut map), FIRST)?;
     Ok((bytes, labels))
 }
 
@@ -128,20 +129,20 @@ fn full_atlas(rt: &HostRuntime) -> anyhow::Result<()> {
     let mut labels = LABELS;
     let mut map = old_map()?;
     let mut atlas = Atlas::open(&mut bytes, &mut labels);
-    expect(
-        Outcome::of(atlas.enter(&triangle, ALLOWANCE, &mut map)),
-        FIRST,
+    expect_outcome(atlas.enter(&triangle, ALLOWANCE, &mut map), FIRST)?;
+    let outcome = atlas.enter(&ring, ALLOWANCE, &mut map);
+    print!(rt;
+        "the ring of six where the triangle has the only block: {}",
+        Told(outcome)
     )?;
-    let outcome = Outcome::of(atlas.enter(&ring, ALLOWANCE, &mut map));
-    print!(rt; "the ring of six where the triangle has the only block: {outcome}")?;
-    expect(outcome, Outcome::Refused(Refusal::AtlasFull))?;
+    expect_outcome(outcome, Err(Refusal::AtlasFull))?;
     expect_same(&map, &old_map()?)?;
-    let again = Outcome::of(atlas.enter(&triangle, ALLOWANCE, &mut map));
+    let again = atlas.enter(&triangle, ALLOWANCE, &mut map);
     expect_same(&bytes, &bytes_before)?;
     expect_same(&labels, &labels_before)?;
     println!(rt; ", and nothing is written")?;
-    println!(rt; "the triangle again: {again}")?;
-    expect(again, FIRST_AGAIN)?;
+    println!(rt; "the triangle again: {}", Told(again))?;
+    expect_outcome(again, FIRST_AGAIN)?;
     Ok(())
 }
 

@@ -1,39 +1,24 @@
 // What a call came to, in plain words.
 use atlas::answer::Answer;
-use std::error::Error;
 use std::fmt;
 use survey::refusal::Refusal;
+use thiserror::Error;
 
 // The answer, or the refusal, of a call.
-#[derive(Clone, Copy, PartialEq)]
-pub enum Outcome {
-    Answered(Answer),
-    Refused(Refusal),
-}
+pub type Outcome = Result<Answer, Refusal>;
 
-impl Outcome {
-    pub fn of(res: Result<Answer, Refusal>) -> Outcome {
-        match res {
-            Ok(answer) => Outcome::Answered(answer),
-            Err(refusal) => Outcome::Refused(refusal),
-        }
-    }
-}
+// An outcome as it is printed.
+#[derive(Clone, Copy)]
+pub struct Told(pub Outcome);
 
-impl fmt::Display for Outcome {
+impl fmt::Display for Told {
     fn fmt<W: fmt::Write>(&self, f: &mut fmt::Formatter<W>) -> fmt::Result {
-        match *self {
-            Outcome::Answered(Answer::New { form, trials }) => {
-                write!(f, "new {form} with {trials} trials")
-            }
-            Outcome::Answered(Answer::Known { form, trials }) => {
-                write!(f, "known {form} with {trials} trials")
-            }
-            Outcome::Answered(Answer::Unknown { trials }) => {
-                write!(f, "unknown with {trials} trials")
-            }
-            Outcome::Answered(Answer::Spent { trials }) => write!(f, "spent with {trials} trials"),
-            Outcome::Refused(refusal) => {
+        match self.0 {
+            Ok(Answer::New { form, trials }) => write!(f, "new {form} with {trials} trials"),
+            Ok(Answer::Known { form, trials }) => write!(f, "known {form} with {trials} trials"),
+            Ok(Answer::Unknown { trials }) => write!(f, "unknown with {trials} trials"),
+            Ok(Answer::Spent { trials }) => write!(f, "spent with {trials} trials"),
+            Err(refusal) => {
                 let number = refusal.number();
                 write!(f, "refused with {number}")
             }
@@ -42,21 +27,12 @@ impl fmt::Display for Outcome {
 }
 
 // How a worked case differs from what it should be.
-#[derive(Clone, Copy, Debug)]
+#[derive(Debug, Drop, Error)]
 pub enum Surprise {
+    #[error("the call should have come to something else")]
     OtherOutcome,
+    #[error("a refused call has written something")]
     RefusedCallWrote,
+    #[error("the stations should be numbered otherwise")]
     OtherStations,
 }
-
-impl fmt::Display for Surprise {
-    fn fmt<W: fmt::Write>(&self, f: &mut fmt::Formatter<W>) -> fmt::Result {
-        match self {
-            Surprise::OtherOutcome => write!(f, "the call should have come to something else"),
-            Surprise::RefusedCallWrote => write!(f, "a refused call has written something"),
-            Surprise::OtherStations => write!(f, "the stations should be numbered otherwise"),
-        }
-    }
-}
-
-impl Error for Surprise {}

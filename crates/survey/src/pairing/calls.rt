@@ -1,4 +1,4 @@
-ghost use Rattle.std.specs.Prelude.{◌≡◌, ℕ, ◌<◌, ◌≤◌, [], length, Some, None, Ok, Err, Decides, ◌≢◌};
+ghost use Rattle.std.specs.Prelude.{◌≡◌, ℕ, ◌<◌, ◌≤◌, [], length, Some, None, Ok, Err, Decides, ◌≢◌, slice_index};
 ghost use Rattle.survey.specs.Pairings.{size_of, image_of, images_of, OneToOneOnto, Identity, Reverses, Follows};
 ghost use Rattle.survey.specs.declared.refusal.Refusal.TheVariants.{NoSuchStation, TooManyStations, CountsDiffer};
 ghost use Rattle.std.specs.Cmp.{partial_equiv_from_equiv};
@@ -8,9 +8,18 @@ ghost use Rattle.std.specs.Str.{bytes_eq};
 
 use crate::pairing::{MOST, Pairing};
 use crate::refusal::Refusal;
+use std::array;
 
-// Stands for the source of a station that has none yet: more than any station.
+// Stands for the source of a station that has none yet: more than any station. A list of options in its place would have
+// to be turned into the bytes of the pairing at the end, by one more loop.
 const FREE: u8 = u8::MAX;
+
+// Each station by its own number.
+fn in_order() -> [u8; MOST]
+    ensures { (u : ℕ) → u < 64 → slice_index result u ≡ u }
+{
+    array::from_fn(|u| u as u8)
+}
 
 impl Pairing {
     // The pairing of no stations.
@@ -31,10 +40,7 @@ impl Pairing {
         if n > MOST {
             return Err(Refusal::TooManyStations);
         }
-        let mut images = [0; MOST];
-        for u in 0..n {
-            images[u] = u as u8;
-        }
+        let images = in_order();
         Ok(Pairing {
             count: n,
             images,
@@ -122,6 +128,7 @@ impl Pairing {
         }
         let mut images = [0; MOST];
         let mut sources = [0; MOST];
+        // Each array is read at what another holds, so that no chain over one of them is plainer.
         for u in 0..self.count {
             images[u] = other.images[self.images[u] as usize];
             sources[u] = self.sources[other.sources[u] as usize];

@@ -3,5 +3,5 @@ use Rattle.std.proofs.Common.{◌≡◌, drop}
 use Rattle.survey.specs.Sources.{first_record}
 use Rattle.survey.proofs.leg_list.first_record_of.Given as goal
 
-abbrev pub invariant-loop-i : goal.invariant-loop-i
-invariant-loop-i g l = first_record (drop l.i l.legs) l.from l.to ≡ first_record l.legs l.from l.to
+abbrev pub invariant-loop-record : goal.invariant-loop-record
+invariant-loop-record g l = first_record (drop l.record-index l.legs) l.from l.to ≡ first_record l.legs l.from l.to

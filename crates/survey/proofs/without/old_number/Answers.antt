@@ -1,6 +1,6 @@
 use Rattle.std.proofs.Common.{◌≡◌, ℕ, ◌+◌, ◌-◌, ◌^◌, ◌<◌, ◌≤◌, min, sym, ap, ◌∙◌, arith}
 use Rattle.survey.specs.Without.{taken_below}
-use Rattle.survey.proofs.TakenOut.{all_told, old_here, old_later, old_none, passes_out, passes_other}
+use Rattle.survey.proofs.TakenOut.{all_told, old_here, old_past, passes_out, passes_other}
 use Rattle.survey.proofs.without.old_number.Goals as goal
 use Rattle.survey.proofs.without.old_number.Goals.{else-not-is_out-via-then-not-is_out+else-old-ones_below, else-not-is_out-via-else-not-is_out}
 
@@ -23,15 +23,13 @@ loop-old-preserved c =
       | else-not-is_out-via-else-not-is_out r ↦ passes_out mask u w (sym c.is_out.ensures ∙ r.if-not-is_out.false) c.loop-old.invariant
     ]
 
-pub returns-then-old-count : goal.returns-then-old-count
-returns-then-old-count c =
+pub returns : goal.returns
+returns c =
     let mask = c.args.mask in
     let n = c.args.count in
     let w = c.args.station in
     let m : c.loop-old.old ≡ min n 64 = omega arith in
     let low : min n 64 - taken_below mask (min n 64) ≤ w = omega (arith, ap (taken_below mask) m, c.loop-old.invariant) in
     let fits : mask < 2 ^ 64 = omega arith in
-    ap (λ (k : ℕ). w + k) c.ones_below-2.ensures ∙ old_later mask 64 n w fits low (omega arith)
-
-pub returns-else-old-count : goal.returns-else-old-count
-returns-else-old-count c = old_none c.args.mask c.args.count c.args.station (omega arith)
+    let told : c.min.result ≡ min (w + c.ones_below-2.result) n = omega arith in
+    told ∙ ap (λ (k : ℕ). min (w + k) n) c.ones_below-2.ensures ∙ old_past mask 64 n w fits low

@@ -1,12 +1,7 @@
 use Rattle.std.proofs.Common.{◌≡◌, ℕ, sym, ap, ◌∙◌, arith, below_more}
 use Rattle.survey.specs.Pairings.{size_of, image_of}
-use Rattle.survey.proofs.Carried.{size_small, listed_size, listed_image, one_fails, all_hold}
+use Rattle.survey.proofs.Carried.{listed_size, listed_image, one_fails, all_hold}
 use Rattle.survey.proofs.pairing.Pairing.keeps_kinds.Goals as goal
-
-pub overflow_cast-u : goal.overflow_cast-u
-overflow_cast-u g c =
-    let p = c.args.self.now in
-    record { fits = omega (arith, size_small p, listed_size p c.images-image-items.result.now c.images-image-items.ensures.list) }
 
 pub returns-then-kind : goal.returns-then-kind
 returns-then-kind g c =

@@ -2,13 +2,8 @@ use Rattle.std.proofs.Common.{◌≡◌, ℕ, ◌<◌, sym, ap, ◌∙◌, arith
 use Rattle.std.specs.Option.{option_map}
 use Rattle.std.proofs.lemmas.Bool.Decides.{not_from_Decides}
 use Rattle.survey.specs.Pairings.{size_of, image_of}
-use Rattle.survey.proofs.Carried.{size_small, listed_size, listed_image, one_fails, all_hold}
+use Rattle.survey.proofs.Carried.{listed_size, listed_image, one_fails, all_hold}
 use Rattle.survey.proofs.pairing.Pairing.keeps_legs.Goals as goal
-
-pub overflow_cast-u : goal.overflow_cast-u
-overflow_cast-u g c =
-    let p = c.args.self.now in
-    record { fits = omega (arith, size_small p, listed_size p c.images-image-items.result.now c.images-image-items.ensures.list) }
 
 pub returns-then-not-keeps_legs_from : goal.returns-then-not-keeps_legs_from
 returns-then-not-keeps_legs_from g c =

@@ -2,13 +2,8 @@ use Rattle.std.proofs.Common.{◌≡◌, ℕ, sym, ap, ◌∙◌, arith, below_m
 use Rattle.std.specs.Option.{option_map}
 use Rattle.std.proofs.lemmas.Bool.Decides.{not_from_Decides}
 use Rattle.survey.specs.Pairings.{size_of, image_of}
-use Rattle.survey.proofs.Carried.{size_small, listed_size, listed_image, one_fails, all_hold}
+use Rattle.survey.proofs.Carried.{listed_size, listed_image, one_fails, all_hold}
 use Rattle.survey.proofs.pairing.Pairing.keeps_legs_from.Goals as goal
-
-pub overflow_cast-v : goal.overflow_cast-v
-overflow_cast-v g c =
-    let p = c.args.self.now in
-    record { fits = omega (arith, size_small p, listed_size p c.images-image-items.result.now c.images-image-items.ensures.list) }
 
 pub returns-then-not-alike : goal.returns-then-not-alike
 returns-then-not-alike g c =
