@@ -18,6 +18,8 @@ fn alike<L: Label>(a: Option<L>, b: Option<L>) -> bool
     }
 }
 
+// The two networks stay two parameters: the facts decided here are of a pairing and two networks, and through a struct of
+// the three each clause would only be longer.
 impl Pairing {
     // Whether the kinds of the first network's stations are those of their images.
     fn keeps_kinds<G: Network, H: Network<Label = G::Label>>(&self, g: &G, h: &H) -> bool

@@ -23,7 +23,8 @@ pub trait Network {
     fn kind(&self, station: u16) -> u8
         ensures { result ≡ (means self.now).kind station };
 
-    // The label of the leg between two stations, or none.
+    // The label of the leg between two stations, or none. They are two numbers and no type of their own, as the subject
+    // speaks of them: any two may be asked for, and nothing holds of a pair.
     fn leg(&self, from: u16, to: u16) -> Option<Self::Label>
         ensures { result ≡ (means self.now).leg from to };
 }

@@ -28,6 +28,7 @@ pub enum Refusal {
 }
 
 impl Refusal {
+    // Written out: one case has a station, so that no number can stand behind each case in the declaration.
     pub fn number(&self) -> u8
         ensures { result ≡ number_of self.now }
     {
@@ -45,6 +46,7 @@ impl Refusal {
     }
 }
 
+// By hand: what is printed is promised, and a derive of errors promises no text.
 impl fmt::Display for Refusal {
     ghost output = { λ x. Some (sentence x) };
 

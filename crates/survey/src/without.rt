@@ -14,6 +14,8 @@ pub struct Without<N> {
 // Stations from here on have no bit.
 const BITS: u16 = 64;
 
+// The mask stays a number beside the station's: it is no more than the field of the layer, and the definitions name it so.
+
 // Whether the bit of a station is set.
 fn is_out(mask: u64, station: u16) -> bool
     requires { station < 64 }

@@ -1,7 +1,8 @@
 ghost use Rattle.std.specs.Prelude.{◌≡◌, ℕ, ◌<◌, Some, None, ◌≢◌};
 ghost use Rattle.survey.specs.Words.{word_of};
 
-// The word of a kind of stations.
+// The word of a kind of stations. A kind is a byte and no enum: a rule of the subject, in which each of 256 is a kind, and
+// eight of them have words.
 pub fn word(kind: u8) -> &'static str
     ensures { result.now ≡ word_of kind }
 {

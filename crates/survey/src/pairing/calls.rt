@@ -141,6 +141,7 @@ impl Pairing {
     }
 }
 
+// By hand: what stands past the count says nothing, and a derive would compare it.
 impl PartialEq for Pairing {
     ghost eq = { on images_of bytes_eq };
 
