@@ -7,7 +7,7 @@ use survey::reading::Reading;
 
 // The number of a label's sense among those met so far, from 1; a new sense joins them.
 fn number(met: &mut Vec<Reading>, label: Reading) -> anyhow::Result<u8> {
-    if let Some(place) = met.as_slice().iter().position(|held| label.same(held)) {
+    if let Some(place) = met.iter().position(|held| label.same(held)) {
         return Ok(u8::try_from(place.saturating_add(1))?);
     }
     met.push(label)?;

@@ -77,7 +77,7 @@ impl Notebook {
 
     // The network that the notebook tells of.
     pub fn network(&self) -> LegList<'_, Reading> {
-        LegList::new(self.kinds.as_slice(), self.legs.as_slice())
+        LegList::new(&self.kinds, &self.legs)
     }
 }
 

@@ -48,7 +48,7 @@ impl Sheet for GradeSheet {
         let count = words.number::<usize>()?;
         let kinds = words.bytes(heap)?;
         let grades = words.bytes(heap)?;
-        let table = table_of(count, grades.as_slice()).ok_or_else(|| words.fault())?;
+        let table = table_of(count, &grades).ok_or_else(|| words.fault())?;
         if kinds.len() != count {
             return Err(words.fault());
         }
@@ -56,6 +56,6 @@ impl Sheet for GradeSheet {
     }
 
     fn put(&self, question: Question<'_, '_, Grade>) -> Result<Answer, Refusal> {
-        question.put(&GradeTable::new(self.kinds.as_slice(), &self.table))
+        question.put(&GradeTable::new(&self.kinds, &self.table))
     }
 }

@@ -141,7 +141,7 @@ impl Sheet for ReadingSheet {
     }
 
     fn put(&self, question: Question<'_, '_, Reading>) -> Result<Answer, Refusal> {
-        let list = LegList::new(self.kinds.as_slice(), self.legs.as_slice());
+        let list = LegList::new(&self.kinds, &self.legs);
         match self.layers {
             Layers::None => question.put(&list),
             Layers::One(layer) => put_through(list, layer, question),

@@ -176,7 +176,7 @@ pub fn replay<S: Sheet>(rt: &HostRuntime, name: &str) -> anyhow::Result<()> {
     let lent = Lent::read(opening)?;
     let mut bytes: Vec<u8> = vec![in heap; 0; lent.blocks as usize * BLOCK]?;
     let mut places = vec![in heap; S::BLANK; lent.places as usize]?;
-    let mut atlas = Atlas::open(bytes.as_mut_slice(), places.as_mut_slice());
+    let mut atlas = Atlas::open(&mut bytes, &mut places);
     for (at, line) in calls.lines().enumerate() {
         let call = Call::<S>::read(heap, Words::of(at.saturating_add(2), line))?;
         work(rt, &mut atlas, &call)?;

@@ -59,7 +59,7 @@ impl<'a> Words<'a> {
             return Ok(Vec::new(heap));
         }
         let mut bytes = vec![in heap; 0; word.len() / 2]?;
-        decode_to_slice(word, bytes.as_mut_slice()).map_err(|_| self.fault())?;
+        decode_to_slice(word, &mut bytes).map_err(|_| self.fault())?;
         Ok(bytes)
     }
 }

@@ -73,7 +73,7 @@ fn run<L: Written + Clone + Drop, N: Network<Label = L>>(
         places: room,
     } = lent;
     println!(rt; "  {blocks} blocks, {room} label places")?;
-    let atlas = season(bytes.as_mut_slice(), places.as_mut_slice(), requests);
+    let atlas = season(&mut bytes, &mut places, requests);
     report::calls(rt, calls, requests)?;
     report::forms(rt, &atlas)?;
     Ok(())
@@ -83,35 +83,35 @@ fn grades(rt: &HostRuntime) -> anyhow::Result<()> {
     let heap = rt.alloc();
     let plan: Plan<Grade> = Plan::read(heap, texts::GRADES)?;
     let mut tables = Vec::new(heap);
-    for book in plan.books().iter() {
+    for book in plan.books() {
         tables.push(table(heap, book)?)?;
     }
     let mut requests = Vec::new(heap);
-    for call in plan.calls().iter() {
+    for call in plan.calls() {
         let asked = call.asked;
         if let Some(book) = plan.books().get(asked.book) {
             if let Some(table) = tables.get(asked.book) {
-                let network = graded(book, table.as_slice(), asked.layer);
+                let network = graded(book, table, asked.layer);
                 add(&mut requests, asked, network)?;
             }
         }
     }
     println!(rt; "Grades")?;
-    run(rt, FOR_GRADES, plan.calls(), requests.as_mut_slice())
+    run(rt, FOR_GRADES, plan.calls(), &mut requests)
 }
 
 fn readings(rt: &HostRuntime) -> anyhow::Result<()> {
     let heap = rt.alloc();
     let plan: Plan<Reading> = Plan::read(heap, texts::READINGS)?;
     let mut requests = Vec::new(heap);
-    for call in plan.calls().iter() {
+    for call in plan.calls() {
         let asked = call.asked;
         if let Some(book) = plan.books().get(asked.book) {
             add(&mut requests, asked, listed(book, asked.layer))?;
         }
     }
     println!(rt; "Readings")?;
-    run(rt, FOR_READINGS, plan.calls(), requests.as_mut_slice())
+    run(rt, FOR_READINGS, plan.calls(), &mut requests)
 }
 
 fn both(rt: &HostRuntime) -> anyhow::Result<()> {

@@ -50,7 +50,7 @@ const GRADES: usize = 4096;
 // The table of a notebook's grades. The first leg between two stations counts, as in a leg list.
 pub fn table(heap: Global, book: &Notebook<Grade>) -> Result<Vec<u8>, Mistake> {
     let mut bytes: Vec<u8> = vec![in heap; 0; GRADES]?;
-    for leg in book.legs().iter() {
+    for leg in book.legs() {
         if leg.from < GradeTable::ROW && leg.to < GradeTable::ROW {
             let place = GradeTable::ROW as usize * leg.from as usize + leg.to as usize;
             if let Some(grade) = bytes.get_mut(place) {

@@ -69,14 +69,14 @@ impl<L: Written + Drop> Notebook<L> {
     pub fn copied(&self, heap: Global, step: u32, shift: u32) -> Result<Notebook<L>, Mistake> {
         let count = self.count();
         let mut kinds: Vec<u8> = vec![in heap; 0; self.kinds.len()]?;
-        for (u, kind) in self.kinds.as_slice().iter().enumerate() {
+        for (u, kind) in self.kinds.iter().enumerate() {
             let u = u16::try_from(u).unwrap_or(0);
             if let Some(place) = kinds.get_mut(renumbered(u, count, step, shift) as usize) {
                 *place = *kind;
             }
         }
         let mut legs = Vec::new(heap);
-        for (i, leg) in self.legs.as_slice().iter().enumerate() {
+        for (i, leg) in self.legs.iter().enumerate() {
             let from = renumbered(leg.from, count, step, shift);
             let to = renumbered(leg.to, count, step, shift);
             let label = leg.label;
@@ -94,15 +94,15 @@ impl<L: Written + Drop> Notebook<L> {
     }
 
     pub fn kinds(&self) -> &[u8] {
-        self.kinds.as_slice()
+        &self.kinds
     }
 
     pub fn legs(&self) -> &[Leg<L>] {
-        self.legs.as_slice()
+        &self.legs
     }
 
     // The network that the notebook tells of.
     pub fn network(&self) -> LegList<'_, L> {
-        LegList::new(self.kinds.as_slice(), self.legs.as_slice())
+        LegList::new(&self.kinds, &self.legs)
     }
 }

@@ -153,17 +153,16 @@ impl<L: Written + Drop> Plan<L> {
 
     fn book_named(&self, line: usize, name: &str) -> Result<usize, Mistake> {
         self.names
-            .as_slice()
             .iter()
             .position(|known| known.as_str() == name)
             .ok_or(Mistake::NoSuchBook { line })
     }
 
     pub fn books(&self) -> &[Notebook<L>] {
-        self.books.as_slice()
+        &self.books
     }
 
     pub fn calls(&self) -> &[Call] {
-        self.calls.as_slice()
+        &self.calls
     }
 }

@@ -70,7 +70,7 @@ pub fn calls<N: Network>(
         spent: 0,
         refused: 0,
     };
-    for (call, request) in calls.iter().zip(requests.iter()) {
+    for (call, request) in calls.iter().zip(requests) {
         let text = call.text.as_str();
         print!(rt; "  {text}: ")?;
         match request.answer {
