@@ -13,29 +13,48 @@ pub struct Notebook {
     legs: Vec<Leg<Reading>>,
 }
 
-// What is wrong with a notebook, with the line that it stands on.
+// What is wrong with a line of a notebook.
 #[derive(Debug, Drop, Error)]
-pub enum Mistake {
-    #[error("line {line}: neither a station nor a leg")]
-    NotALine { line: usize },
+pub enum Wrong {
+    #[error("neither a station nor a leg")]
+    NotALine,
     // a kind that has no word
-    #[error("line {line}: no such kind of station")]
-    NotAKind { line: usize },
-    #[error("line {line}: a number is wanted")]
-    NotANumber { line: usize },
+    #[error("no such kind of station")]
+    NotAKind,
+    #[error("a number is wanted")]
+    NotANumber,
     // numbers that make no reading
-    #[error("line {line}: {refusal}")]
-    NotAReading { line: usize, refusal: Refusal },
+    #[error("{0}")]
+    NotAReading(#[from] Refusal),
     #[error("no memory")]
     NoMemory(#[from(alloc)] AllocError),
 }
 
+// The first mistake of a notebook, with the line that it stands on.
+#[derive(Debug, Drop, Error)]
+pub enum Mistake {
+    #[error("line {line}: {wrong}")]
+    Line { line: usize, wrong: Wrong },
+    #[error("no memory")]
+    NoMemory(#[from(alloc)] AllocError),
+}
+
+impl Wrong {
+    // This line is where it goes wrong, but for memory, which may run out at any.
+    fn at(self, line: usize) -> Mistake {
+        match self {
+            Wrong::NoMemory(error) => Mistake::NoMemory(error),
+            wrong => Mistake::Line { line, wrong },
+        }
+    }
+}
+
 // Stands in the other program with a notebook too: shared, it would take a library, with a contract, for one line.
-fn number<F: FromStr>(line: usize, word: &str) -> Result<F, Mistake>
+fn number<F: FromStr>(word: &str) -> Result<F, Wrong>
 where
     <F as FromStr>::Err: Drop,
 {
-    word.parse::<F>().map_err(|_| Mistake::NotANumber { line })
+    word.parse::<F>().map_err(|_| Wrong::NotANumber)
 }
 
 impl Notebook {
@@ -46,32 +65,32 @@ impl Notebook {
             legs: Vec::new(heap),
         };
         for (at, text) in text.lines().enumerate() {
-            book.read_line(heap, at.saturating_add(1), text)?;
+            book.read_line(heap, text)
+                .map_err(|wrong| wrong.at(at.saturating_add(1)))?;
         }
         Ok(book)
     }
 
-    fn read_line(&mut self, heap: Global, line: usize, text: &str) -> Result<(), Mistake> {
+    fn read_line(&mut self, heap: Global, text: &str) -> Result<(), Wrong> {
         let words: Vec<&str> = text.split_whitespace().collect(heap)?;
         match words.as_slice() {
             [] => Ok(()),
-            ["station", kind] => self.read_station(line, kind),
+            ["station", kind] => self.read_station(kind),
             ["leg", from, to, length, bearing, gradient] => {
                 let leg = Leg {
-                    from: number(line, from)?,
-                    to: number(line, to)?,
-                    label: read_label(line, length, bearing, gradient)?,
+                    from: number(from)?,
+                    to: number(to)?,
+                    label: read_label(length, bearing, gradient)?,
                 };
                 self.legs.push(leg)?;
                 Ok(())
             }
-            _ => Err(Mistake::NotALine { line }),
+            _ => Err(Wrong::NotALine),
         }
     }
 
-    fn read_station(&mut self, line: usize, kind: &str) -> Result<(), Mistake> {
-        self.kinds
-            .push(kind_of(kind).ok_or(Mistake::NotAKind { line })?)?;
+    fn read_station(&mut self, kind: &str) -> Result<(), Wrong> {
+        self.kinds.push(kind_of(kind).ok_or(Wrong::NotAKind)?)?;
         Ok(())
     }
 
@@ -81,16 +100,6 @@ impl Notebook {
     }
 }
 
-fn read_label(
-    line: usize,
-    length: &str,
-    bearing: &str,
-    gradient: &str,
-) -> Result<Reading, Mistake> {
-    Reading::new(
-        number(line, length)?,
-        number(line, bearing)?,
-        number(line, gradient)?,
-    )
-    .map_err(|refusal| Mistake::NotAReading { line, refusal })
+fn read_label(length: &str, bearing: &str, gradient: &str) -> Result<Reading, Wrong> {
+    Ok(Reading::new(number(length)?, number(bearing)?, number(gradient)?)?)
 }

@@ -1,5 +1,5 @@
 // A party's notebook: the stations with their kinds, and the legs as they were read.
-use crate::mistake::Mistake;
+use crate::mistake::Wrong;
 use crate::written::{Written, number};
 use std::alloc::Global;
 use std::iter;
@@ -31,30 +31,23 @@ impl<L: Written + Drop> Notebook<L> {
     }
 
     // One station more, numbered in the order of the lines.
-    pub fn add_station(&mut self, line: usize, kind: &str) -> Result<(), Mistake> {
-        self.kinds
-            .push(kind_of(kind).ok_or(Mistake::NotAKind { line })?)?;
+    pub fn add_station(&mut self, kind: &str) -> Result<(), Wrong> {
+        self.kinds.push(kind_of(kind).ok_or(Wrong::NotAKind)?)?;
         Ok(())
     }
 
     // So many plain stations more.
-    pub fn add_plain(&mut self, count: u16) -> Result<(), Mistake> {
+    pub fn add_plain(&mut self, count: u16) -> Result<(), Wrong> {
         self.kinds.extend(iter::repeat_n(0, count as usize))?;
         Ok(())
     }
 
     // One leg more, with a label in the words that follow the stations.
-    pub fn add_leg(
-        &mut self,
-        line: usize,
-        from: &str,
-        to: &str,
-        label: &[&str],
-    ) -> Result<(), Mistake> {
+    pub fn add_leg(&mut self, from: &str, to: &str, label: &[&str]) -> Result<(), Wrong> {
         let leg = Leg {
-            from: number(line, from)?,
-            to: number(line, to)?,
-            label: L::read(line, label)?,
+            from: number(from)?,
+            to: number(to)?,
+            label: L::read(label)?,
         };
         self.legs.push(leg)?;
         Ok(())
@@ -66,7 +59,7 @@ impl<L: Written + Drop> Notebook<L> {
 
     // The same series as another party wrote it down: with other station numbers, and each second leg read from its
     // far end.
-    pub fn copied(&self, heap: Global, step: u32, shift: u32) -> Result<Notebook<L>, Mistake> {
+    pub fn copied(&self, heap: Global, step: u32, shift: u32) -> Result<Notebook<L>, Wrong> {
         let count = self.count();
         let mut kinds: Vec<u8> = vec![in heap; 0; self.kinds.len()]?;
         for (u, kind) in self.kinds.iter().enumerate() {

@@ -8,7 +8,7 @@
 //                                     around, and each second leg is read from its far end
 //     enter LAYER NAME ALLOWANCE      a call; the layer is as-read, both-ways, turned, table (of grades), or without-U:
 //     find LAYER NAME ALLOWANCE       both ways and without station U
-use crate::mistake::Mistake;
+use crate::mistake::{Mistake, Wrong};
 use crate::notebook::Notebook;
 use crate::written::{Written, number};
 use atlas::request::Ask;
@@ -47,7 +47,7 @@ pub struct Plan<L> {
     calls: Vec<Call>,
 }
 
-fn layer_of(line: usize, word: &str) -> Result<Layer, Mistake> {
+fn layer_of(word: &str) -> Result<Layer, Wrong> {
     match word {
         "as-read" => Ok(Layer::AsRead),
         "both-ways" => Ok(Layer::BothWays),
@@ -55,9 +55,9 @@ fn layer_of(line: usize, word: &str) -> Result<Layer, Mistake> {
         "table" => Ok(Layer::Table),
         _ => match word.strip_prefix("without-") {
             Some(station) => Ok(Layer::Without {
-                station: number(line, station)?,
+                station: number(station)?,
             }),
-            None => Err(Mistake::NotALine { line }),
+            None => Err(Wrong::NotALine),
         },
     }
 }
@@ -71,44 +71,45 @@ impl<L: Written + Drop> Plan<L> {
             calls: Vec::new(heap),
         };
         for (at, text) in text.lines().enumerate() {
-            plan.read_line(heap, at.saturating_add(1), text)?;
+            plan.read_line(heap, text)
+                .map_err(|wrong| wrong.at(at.saturating_add(1)))?;
         }
         Ok(plan)
     }
 
-    fn read_line(&mut self, heap: Global, line: usize, text: &str) -> Result<(), Mistake> {
+    fn read_line(&mut self, heap: Global, text: &str) -> Result<(), Wrong> {
         let words: Vec<&str> = text.split_whitespace().collect(heap)?;
         match words.as_slice() {
             [] => Ok(()),
             ["book", name] => self.add_book(heap, name, Notebook::new(heap)),
             ["copy", name, of, step, shift] => {
-                let of = self.book_named(line, of)?;
-                self.add_copy(heap, name, of, number(line, step)?, number(line, shift)?)
+                let of = self.book_named(of)?;
+                self.add_copy(heap, name, of, number(step)?, number(shift)?)
             }
             ["enter", word, name, allowance] => {
-                let call = self.call(line, Ask::Enter, word, name, allowance)?;
+                let call = self.call(Ask::Enter, word, name, allowance)?;
                 self.add_call(heap, text, call)
             }
             ["find", word, name, allowance] => {
-                let call = self.call(line, Ask::Find, word, name, allowance)?;
+                let call = self.call(Ask::Find, word, name, allowance)?;
                 self.add_call(heap, text, call)
             }
-            words => self.add_to_book(line, words),
+            words => self.add_to_book(words),
         }
     }
 
     // A line of the notebook that was begun last.
-    fn add_to_book(&mut self, line: usize, words: &[&str]) -> Result<(), Mistake> {
-        let book = self.books.last_mut().ok_or(Mistake::NotALine { line })?;
+    fn add_to_book(&mut self, words: &[&str]) -> Result<(), Wrong> {
+        let book = self.books.last_mut().ok_or(Wrong::NotALine)?;
         match words {
-            ["station", kind] => book.add_station(line, kind),
-            ["plain", count] => book.add_plain(number(line, count)?),
-            ["leg", from, to, label @ ..] => book.add_leg(line, from, to, label),
-            _ => Err(Mistake::NotALine { line }),
+            ["station", kind] => book.add_station(kind),
+            ["plain", count] => book.add_plain(number(count)?),
+            ["leg", from, to, label @ ..] => book.add_leg(from, to, label),
+            _ => Err(Wrong::NotALine),
         }
     }
 
-    fn add_book(&mut self, heap: Global, name: &str, book: Notebook<L>) -> Result<(), Mistake> {
+    fn add_book(&mut self, heap: Global, name: &str, book: Notebook<L>) -> Result<(), Wrong> {
         self.names.push(format!(in heap; "{name}")?)?;
         self.books.push(book)?;
         Ok(())
@@ -121,7 +122,7 @@ impl<L: Written + Drop> Plan<L> {
         of: usize,
         step: u32,
         shift: u32,
-    ) -> Result<(), Mistake> {
+    ) -> Result<(), Wrong> {
         let copy = match self.books.get(of) {
             Some(book) => book.copied(heap, step, shift)?,
             None => Notebook::new(heap),
@@ -129,33 +130,26 @@ impl<L: Written + Drop> Plan<L> {
         self.add_book(heap, name, copy)
     }
 
-    fn call(
-        &self,
-        line: usize,
-        ask: Ask,
-        layer: &str,
-        name: &str,
-        allowance: &str,
-    ) -> Result<Asked, Mistake> {
+    fn call(&self, ask: Ask, layer: &str, name: &str, allowance: &str) -> Result<Asked, Wrong> {
         Ok(Asked {
             ask,
-            layer: layer_of(line, layer)?,
-            book: self.book_named(line, name)?,
-            allowance: number(line, allowance)?,
+            layer: layer_of(layer)?,
+            book: self.book_named(name)?,
+            allowance: number(allowance)?,
         })
     }
 
-    fn add_call(&mut self, heap: Global, text: &str, asked: Asked) -> Result<(), Mistake> {
+    fn add_call(&mut self, heap: Global, text: &str, asked: Asked) -> Result<(), Wrong> {
         let text = format!(in heap; "{text}")?;
         self.calls.push(Call { text, asked })?;
         Ok(())
     }
 
-    fn book_named(&self, line: usize, name: &str) -> Result<usize, Mistake> {
+    fn book_named(&self, name: &str) -> Result<usize, Wrong> {
         self.names
             .iter()
             .position(|known| known.as_str() == name)
-            .ok_or(Mistake::NoSuchBook { line })
+            .ok_or(Wrong::NoSuchBook)
     }
 
     pub fn books(&self) -> &[Notebook<L>] {

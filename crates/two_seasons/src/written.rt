@@ -1,17 +1,17 @@
 // Labels as they are written in a notebook.
-use crate::mistake::Mistake;
+use crate::mistake::Wrong;
 use std::str::FromStr;
 use survey::grade::Grade;
 use survey::label::Label;
 use survey::reading::Reading;
 
-// A number of some kind, or which line lacks one. It stands in the other program with a notebook too: shared, it would
-// take a library, with a contract, for one line.
-pub fn number<F: FromStr>(line: usize, word: &str) -> Result<F, Mistake>
+// A number of some kind. It stands in the other program with a notebook too: shared, it would take a library, with a
+// contract, for one line.
+pub fn number<F: FromStr>(word: &str) -> Result<F, Wrong>
 where
     <F as FromStr>::Err: Drop,
 {
-    word.parse::<F>().map_err(|_| Mistake::NotANumber { line })
+    word.parse::<F>().map_err(|_| Wrong::NotANumber)
 }
 
 // A kind of label that can be read from words.
@@ -19,17 +19,17 @@ pub trait Written: Label {
     // What fills label places that no label has joined yet.
     const BLANK: Self;
 
-    fn read(line: usize, words: &[&str]) -> Result<Self, Mistake>;
+    fn read(words: &[&str]) -> Result<Self, Wrong>;
 }
 
 impl Written for Grade {
     const BLANK: Grade = Grade { value: 0 };
 
-    fn read(line: usize, words: &[&str]) -> Result<Grade, Mistake> {
+    fn read(words: &[&str]) -> Result<Grade, Wrong> {
         let [value] = words else {
-            return Err(Mistake::NotALine { line });
+            return Err(Wrong::NotALine);
         };
-        Grade::new(number(line, value)?).map_err(|refusal| Mistake::Refused { line, refusal })
+        Ok(Grade::new(number(value)?)?)
     }
 }
 
@@ -41,15 +41,10 @@ impl Written for Reading {
     };
 
     // Length in centimetres, bearing and gradient in tenths of a degree.
-    fn read(line: usize, words: &[&str]) -> Result<Reading, Mistake> {
+    fn read(words: &[&str]) -> Result<Reading, Wrong> {
         let [length, bearing, gradient] = words else {
-            return Err(Mistake::NotALine { line });
+            return Err(Wrong::NotALine);
         };
-        Reading::new(
-            number(line, length)?,
-            number(line, bearing)?,
-            number(line, gradient)?,
-        )
-        .map_err(|refusal| Mistake::Refused { line, refusal })
+        Ok(Reading::new(number(length)?, number(bearing)?, number(gradient)?)?)
     }
 }
