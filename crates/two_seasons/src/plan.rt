@@ -13,6 +13,7 @@ use crate::notebook::Notebook;
 use crate::written::{Written, number};
 use atlas::request::Ask;
 use std::alloc::Global;
+use std::str::FromStr;
 
 // How the network of a call is read from a notebook.
 #[derive(Clone, Copy)]
@@ -47,18 +48,22 @@ pub struct Plan<L> {
     calls: Vec<Call>,
 }
 
-fn layer_of(word: &str) -> Result<Layer, Wrong> {
-    match word {
-        "as-read" => Ok(Layer::AsRead),
-        "both-ways" => Ok(Layer::BothWays),
-        "turned" => Ok(Layer::Turned),
-        "table" => Ok(Layer::Table),
-        _ => match word.strip_prefix("without-") {
-            Some(station) => Ok(Layer::Without {
-                station: number(station)?,
-            }),
-            None => Err(Wrong::NotALine),
-        },
+impl FromStr for Layer {
+    type Err = Wrong;
+
+    fn from_str(word: &str) -> Result<Layer, Wrong> {
+        match word {
+            "as-read" => Ok(Layer::AsRead),
+            "both-ways" => Ok(Layer::BothWays),
+            "turned" => Ok(Layer::Turned),
+            "table" => Ok(Layer::Table),
+            _ => {
+                let station = word.strip_prefix("without-").ok_or(Wrong::NotALine)?;
+                Ok(Layer::Without {
+                    station: number(station)?,
+                })
+            }
+        }
     }
 }
 
@@ -133,7 +138,7 @@ impl<L: Written + Drop> Plan<L> {
     fn call(&self, ask: Ask, layer: &str, name: &str, allowance: &str) -> Result<Asked, Wrong> {
         Ok(Asked {
             ask,
-            layer: layer_of(layer)?,
+            layer: layer.parse()?,
             book: self.book_named(name)?,
             allowance: number(allowance)?,
         })
