@@ -50,6 +50,7 @@ pub mod Matches
 -- the code meets the definitions
 pub mod Bitsets
 pub mod Keyed
+pub mod Made
 pub mod Networked
 pub mod Paired
 pub mod Dropped
