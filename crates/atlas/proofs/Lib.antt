@@ -11,7 +11,6 @@ pub mod Noting
 pub mod NotingLegs
 pub mod Joining
 -- coding a network
-pub mod LegCodes
 pub mod InArrays
 -- blocks of lent bytes
 pub mod InBlocks

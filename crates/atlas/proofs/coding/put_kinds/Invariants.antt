@@ -1,7 +1,7 @@
 -- The kinds so far are written.
 use Rattle.std.proofs.Common.{◌≡◌, length}
 use Rattle.atlas.specs.Tables.{Listed}
-use Rattle.atlas.proofs.coder.put_kinds.Given as goal
+use Rattle.atlas.proofs.coding.put_kinds.Given as goal
 
 abbrev pub invariant-loop-u : goal.invariant-loop-u
 invariant-loop-u g l =
