@@ -16,9 +16,9 @@ behind_set n x before after b =
     let more = behind_more n (n + 1) before after (omega arith) b in
     (length-set after n x ∙ b.0, drop-set-lt (n + 1) after n x (omega arith) ∙ more.1)
 
-module _ {L : Type 0} (leg : ℕ → ℕ → Option L) (ps : List (ℕ × ℕ)) (i : ℕ) (p : ℕ × ℕ) (low : i < length ps) (at : p ≡ get_or ps i (0, 0)) where
+module _ {L : Type 0} (leg : ℕ → ℕ → Option L) (ps : List (ℕ × ℕ)) (i : ℕ) (p : ℕ × ℕ) (low : i < length ps) (at : p ≡ get_or ps i p) where
   first : labels_on leg (drop i ps) ≡ labels_on leg (p ∷ drop (i + 1) ps)
-  first = at_drop_more (labels_on leg) ps i (0, 0) low ∙ ap (λ (q : ℕ × ℕ). labels_on leg (q ∷ drop (i + 1) ps)) (sym at)
+  first = at_drop_more (labels_on leg) ps i p low ∙ ap (λ (q : ℕ × ℕ). labels_on leg (q ∷ drop (i + 1) ps)) (sym at)
 
   put : Option L → List L
   put o = elim o [ None ↦ labels_on leg (drop (i + 1) ps) | Some y ↦ y ∷ labels_on leg (drop (i + 1) ps) ]
@@ -35,7 +35,7 @@ module _ {L : Type 0} (leg : ℕ → ℕ → Option L) (ps : List (ℕ × ℕ)) 
 
 -- a label joins, where there is a place for all
 module _ {L : Type 0} (ls ks rest all places : List L) (x : L) (room : ℕ) (r : Bool) (whole : ls ++ x ∷ rest ≡ all) (fits : length all ≤ room) (place : r ≡ ltb (length ls) room) (added : ks ≡ cond r (ls ++ x ∷ []) ls) where
-  placed : r ≡ true
+  pub placed : r ≡ true
   placed = place ∙ lt-ltb (length ls) room (omega (arith, ap length whole, length-append ls (x ∷ rest)))
 
   grown : ks ≡ ls ++ x ∷ []
