@@ -11,7 +11,8 @@ pub const MOST_LABELS: usize = 250;
 pub struct NoPlace;
 
 // Labels of different senses, in the order in which they joined. At most the first 250 places are used, so that a
-// label's number fits a byte.
+// label's number fits a byte. The places are lent, since nothing is allocated here, so how many are used stands beside
+// them.
 #[derive(Drop)]
 pub struct Legend<'a, L> {
     places: &'a mut [L],

@@ -65,6 +65,7 @@ impl<'a, L: Label> Atlas<'a, L> {
             place.old place.new }
     {
         let mut trials = 0;
+        // Each form is read out of its block by its number: there is no slice of forms to go over.
         for k in 0..self.count() {
             let form = self.form(k);
             match search(&form, network, allowance - trials, place) {

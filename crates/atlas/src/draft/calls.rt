@@ -60,8 +60,7 @@ impl<'a, N: Network> Draft<'a, N> {
         ensures { not result
             ≡ (number_of N.Label.Label.sense (labels_on (net_of self.now).leg self.now.legs.items) label.now == 0) }
     {
-        let net = self.net;
-        self.legs.iter().any(|&(u, v)| leads(net, u, v, label))
+        self.legs.iter().any(|&(u, v)| leads(self.net, u, v, label))
     }
 
     // Notes a leg where neither the legend nor the noted legs have its label's sense, if there is a place for it.

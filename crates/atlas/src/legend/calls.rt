@@ -30,17 +30,21 @@ impl<'a, L: Label> Legend<'a, L> {
         self.places.len().min(MOST_LABELS) - self.len
     }
 
-    // The number of a label's sense, from 1; 0 where it is lacking.
+    // Its labels, in order.
+    fn labels(&self) -> &[L]
+        ensures { result.now ≡ labels_of self.now }
+    {
+        &self.places[..self.len]
+    }
+
+    // The number of a label's sense, from 1, and 0 where it is lacking: a byte, since it is the code of a leg.
     pub fn number(&self, label: &L) -> u8
         ensures { result ≡ number_of L.Label.sense (labels_of self.now) label.now }
     {
-        let places = &*self.places;
-        for i in 0..self.len {
-            if label.same(&places[i]) {
-                return i as u8 + 1;
-            }
+        match self.labels().iter().position(|held| label.same(held)) {
+            Some(i) => i as u8 + 1,
+            None => 0,
         }
-        0
     }
 
     // Adds a label at the end, if there is a place for it.
