@@ -84,11 +84,6 @@ module _ (old new : List ℕ) (k : ℕ) (g : Coded) (put : block_coded new k ≡
       ∙ ap (λ (x : Coded). map (form_in new) (range_with_len 0 k) ++ x ∷ []) (ap as_form put ∙ ap (λ (b : Bool). cond b g no_form) can)
       ∙ ap (λ (gs : List Coded). gs ++ g ∷ []) (forms_agree (form_in new) (form_in old) 0 k (λ j l. ap as_form (block_other old new k j (λ e. omega arith) kept)))
 
--- its labels
-pub legend_held : {L : Type 0} (a : Atlas L) → (held_of a).legend ≡ labels_of a.legend
-unfolding held_of
-legend_held a = refl
-
 -- the last of a list
 pub last_at : {A : Type 0} (xs : List A) (x : A) (k : ℕ) (d : A) → k ≡ length xs → get_or (xs ++ x ∷ []) k d ≡ x
 last_at {A} xs x k d e =

@@ -14,17 +14,6 @@ use survey::label::Label;
 use survey::network::Network;
 use survey::refusal::Refusal;
 
-// Whether there is a leg between two stations, with a label of this label's sense.
-fn leads<N: Network>(net: &N, u: u16, v: u16, label: &N::Label) -> bool
-    ensures { result
-        ≡ has_sense N.Label.Label.sense label.now ((N.Network.means net.now).leg u v) }
-{
-    match net.leg(u, v) {
-        Some(held) => label.same(&held),
-        None => false,
-    }
-}
-
 impl<'a, N: Network> Draft<'a, N> {
     // Reads a network against a legend where so many missing labels find places; none where they are more.
     pub(crate) fn read(
@@ -55,12 +44,23 @@ impl<'a, N: Network> Draft<'a, N> {
         !self.legs.is_empty()
     }
 
+    // Whether there is a leg between two stations, with a label of this label's sense.
+    fn leads(&self, u: u16, v: u16, label: &N::Label) -> bool
+        ensures { result ≡ has_sense N.Label.Label.sense label.now ((net_of self.now).leg u v) }
+    {
+        // tried: `is_some_and`; what its closure gives stayed unknown to the proof.
+        match self.net.leg(u, v) {
+            Some(held) => label.same(&held),
+            None => false,
+        }
+    }
+
     // Whether a noted leg has the label's sense.
     fn has(&self, label: &N::Label) -> bool
         ensures { not result
             ≡ (number_of N.Label.Label.sense (labels_on (net_of self.now).leg self.now.legs.items) label.now == 0) }
     {
-        self.legs.iter().any(|&(u, v)| leads(self.net, u, v, label))
+        self.legs.iter().any(|&(u, v)| self.leads(u, v, label))
     }
 
     // Notes a leg where neither the legend nor the noted legs have its label's sense, if there is a place for it.

@@ -34,6 +34,7 @@ impl<'a, N: Network> Draft<'a, N> {
         if u >= self.stations as usize || v >= self.stations as usize {
             return 0;
         }
+        // tried: `map_or`; what its closure gives stayed unknown to the proof.
         match self.net.leg(u as u16, v as u16) {
             Some(label) => legend.number(&label),
             None => 0,

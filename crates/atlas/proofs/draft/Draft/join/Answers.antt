@@ -41,7 +41,7 @@ whole g c =
 
 pub unwrap-requires : goal.unwrap-requires
 unwrap-requires g c =
-    placed (labels_of c.loop-u.legend) (labels_of c.add.new.self) _ (labels_with c.args.self.now c.args.legend.now) c.loop-u.legend.places.now c.in-Some-leg.label (room_of c.loop-u.legend) (is_ok c.add.result) (whole g c) (omega (arith, c.requires, c.loop-u.invariant.room)) c.add.ensures.place c.add.ensures.labels
+    placed (labels_of c.loop-u.legend) _ (labels_with c.args.self.now c.args.legend.now) c.in-Some-leg.label (room_of c.loop-u.legend) (is_ok c.add.result) (whole g c) (omega (arith, c.requires, c.loop-u.invariant.room)) c.add.ensures.place
 
 pub loop-u-preserved : goal.loop-u-preserved
 loop-u-preserved g c =

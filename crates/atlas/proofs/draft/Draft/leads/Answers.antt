@@ -3,7 +3,7 @@ use Rattle.std.proofs.lemmas.Bool.Decides.{same_from_decides}
 use Rattle.atlas.specs.Legends.{has_sense}
 use Rattle.atlas.specs.Senses.{same_sense}
 use Rattle.atlas.proofs.Numbers.{sense_decides}
-use Rattle.atlas.proofs.draft.calls.leads.Goals as goal
+use Rattle.atlas.proofs.draft.Draft.leads.Goals as goal
 
 pub returns-in-Some : goal.returns-in-Some
 returns-in-Some g c =
