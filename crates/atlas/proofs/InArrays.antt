@@ -1,9 +1,9 @@
 -- The coded network that stands in arrays, where the kinds and codes of a network were written into zeros.
-use Rattle.std.proofs.Common.{◌≡◌, ℕ, zero, suc, ◌+◌, ◌*◌, ◌/◌, ◌%◌, ◌<◌, ◌≤◌, Bool, true, false, cond, ◌&&◌, ltb, ◌⊎◌, List, length, get_or, replicate, ℤ, Some, None, Option, sym, refl, ap, ap₂, ◌∙◌, inl, inr, arith, le-ltb, lt-ltb, le-leb}
+use Rattle.std.proofs.Common.{◌≡◌, ℕ, zero, suc, ◌+◌, ◌-◌, ◌*◌, ◌/◌, ◌%◌, ◌<◌, ◌≤◌, Bool, true, false, cond, ◌&&◌, ltb, ◌⊎◌, List, ◌++◌, length, get_or, take, drop, replicate, ℤ, Some, None, Option, sym, refl, ap, ap₂, ◌∙◌, inl, inr, arith, length-append, length-drop, length-take, get_or-take, le-ltb, lt-ltb, le-leb}
 use lib.ListN.{length-replicate, get_or-replicate}
 use Rattle.std.specs.List.{range_with_len}
 use Rattle.std.specs.Option.{option_map, IsSome}
-use Rattle.std.proofs.lemmas.List.{get_or_past}
+use Rattle.std.proofs.lemmas.List.{get_or-append_right, get_or-drop, get_or_past, take_at}
 use Rattle.std.proofs.lemmas.Bool.{cases_lt}
 use Rattle.atlas.specs.Blocks.{no_form}
 use Rattle.atlas.specs.Calls.{first_loop}
@@ -68,6 +68,40 @@ module _ {L : Type 0} (sense : L → List ℤ) (ls : List L) (n : Net L) (small 
     -- what stands in the arrays is the coded network
     pub arrays_coded : in_arrays count kinds codes ≡ coded_by sense ls n
     arrays_coded = λ i. record { count = same i; kind = λ u. kind_is u i; code = λ u v. code_is u v i }
+
+-- some rows of zeros
+pub rows_wide : (count : ℕ) → 64 * count ≤ 4096 → 64 * count ≡ length (take (64 * count) (replicate {A = ℕ} 4096 0))
+rows_wide count few =
+    omega (arith, length-take (64 * count) (replicate {A = ℕ} 4096 0), length-replicate {A = ℕ} 4096 0)
+
+-- codes that are zeros but for the rows of the first stations, where those of the legs were written
+module _ {L : Type 0} (sense : L → List ℤ) (ls : List L) (n : Net L) (bounds : Bounded n) (count : ℕ) (same : count ≡ n.count) (few : 64 * count ≤ 4096) (rows : List ℕ) (long : length rows ≡ length (take (64 * count) (replicate {A = ℕ} 4096 0))) where
+  wide : length (take (64 * count) (replicate {A = ℕ} 4096 0)) ≡ 64 * count
+  wide = sym (rows_wide count few)
+
+  pub rows_length : length (rows ++ drop (64 * count) (replicate 4096 0)) ≡ 4096
+  rows_length =
+      length-append rows (drop (64 * count) (replicate 4096 0))
+      ∙ omega (arith, long, wide, length-drop (64 * count) (replicate {A = ℕ} 4096 0), length-replicate {A = ℕ} 4096 0)
+
+  pub rows_hold :
+      ((i : ℕ) → i < length (take (64 * count) (replicate {A = ℕ} 4096 0)) → get_or rows i 0 ≡ code_of sense ls (n.leg (i / 64) (i % 64))) →
+      (i : ℕ) → i < 4096 → get_or (rows ++ drop (64 * count) (replicate 4096 0)) i 0 ≡ code_of sense ls (n.leg (i / 64) (i % 64))
+  rows_hold each i h = go (cases_lt i (64 * count))
+    where
+      rest : List ℕ
+      rest = drop (64 * count) (replicate 4096 0)
+
+      go : (i < 64 * count) ⊎ (64 * count ≤ i) → get_or (rows ++ rest) i 0 ≡ code_of sense ls (n.leg (i / 64) (i % 64))
+      go (inl l) =
+          sym (get_or-take (64 * count) (rows ++ rest) i 0 l)
+          ∙ ap (λ (xs : List ℕ). get_or xs i 0) (take_at rows rest (64 * count) (long ∙ wide))
+          ∙ each i (omega (arith, wide))
+      go (inr l) =
+          get_or-append_right rows rest (64 * count) i 0 (long ∙ wide) l
+          ∙ get_or-drop (64 * count) (replicate 4096 0) (i - 64 * count) 0
+          ∙ zeros_at 4096 (64 * count + (i - 64 * count))
+          ∙ sym (ap (code_of sense ls) (bounds.no_leg_from (i / 64) (i % 64) (omega arith)))
 
 module _ {X : Type 0} (means : X → Coded) (g h : Coded) (same : g ≡ h) (s : searchable h ≡ true) where
   -- a coded network that can be searched is there

@@ -45,7 +45,7 @@ fn code_byte(form: &CodedNetwork, i: usize) -> u8
 }
 
 // Writes the values of a function at 0, 1, 2 and on.
-fn fill<F: Fn(usize) -> u8>(bytes: &mut [u8], value: F)
+pub(crate) fn fill<F: Fn(usize) -> u8>(bytes: &mut [u8], value: F)
     requires { F.IsAlwaysCallable value }
     ensures length { length bytes.new ≡ length bytes.old }
     ensures values { (i : ℕ) → i < length bytes.old → F.post value i (slice_index bytes.new i) }

@@ -5,9 +5,10 @@ ghost use Rattle.atlas.specs.Legends.{code_of, coded_by};
 ghost use Rattle.atlas.specs.Lent.{labels_of};
 ghost use Rattle.search.specs.Meanings.{coded as coded_network};
 
+use crate::block::fill;
 use crate::draft::Draft;
 use crate::legend::Legend;
-use search::coded::{CodedNetwork, MOST_STATIONS};
+use search::coded::{CodedNetwork, MOST_CODES, MOST_STATIONS};
 use std::array;
 use survey::label::Label;
 use survey::network::Network;
@@ -47,7 +48,9 @@ impl<'a, N: Network> Draft<'a, N> {
             ≡ coded_by N.Label.Label.sense (labels_of legend.now) (net_of self.now) }
     {
         let kinds = array::from_fn(|u| self.kind(u));
-        let codes = array::from_fn(|i| self.code(legend, i));
+        let mut codes = [0; MOST_CODES];
+        let rows = &mut codes[..MOST_STATIONS * self.stations as usize];
+        fill(rows, |i| self.code(legend, i));
         CodedNetwork::new(self.stations as usize, &kinds, &codes).unwrap()
     }
 }
