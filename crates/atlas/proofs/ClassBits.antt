@@ -1,6 +1,7 @@
 -- The class of a station of a form, told and carried.
-use Rattle.std.proofs.Common.{◌≡◌, ℕ, zero, suc, ◌+◌, ◌-◌, ◌<◌, ◌≤◌, Bool, true, false, cond, ◌&&◌, ltb, leb, List, map, length, get_or, Some, None, Ok, Err, Option, Result, sym, refl, ap, ◌∙◌, subst, arith, eq-eqb}
+use Rattle.std.proofs.Common.{◌≡◌, ℕ, zero, suc, ◌+◌, ◌-◌, ◌<◌, ◌≤◌, Bool, true, false, cond, ◌&&◌, ltb, leb, List, map, length, get_or, Some, None, Ok, Err, Option, Result, ok_or, sym, refl, ap, ◌∙◌, subst, arith, eq-eqb}
 use Rattle.std.specs.List.{range_with_len}
+use Rattle.std.specs.Result.{result_ok}
 use Rattle.std.proofs.lemmas.Bool.{eqb-true, ltb-true}
 use Rattle.std.proofs.lemmas.Bool.Decides.{nat_tests}
 use Rattle.search.proofs.Masks.{class_bits}
@@ -69,25 +70,16 @@ module _ (forms : List Coded) (f u : ℕ) (g : Coded) (is : form_numbered forms 
   unfolding class_told
   told = ap (λ (o : Option Coded). told_in o u) is
 
-  pub told_some : (bits : ℕ) → Some bits ≡ bits_of reps (length reps) → Ok bits ≡ class_told forms f u
+  pub told_class : (o : Option ℕ) (r : Result ℕ Refusal) → o ≡ bits_of reps (length reps) → r ≡ ok_or o NoSuchStation → r ≡ class_told forms f u
   unfolding class_in
-  told_some bits e = go (ltb u g.count) (e ∙ answer) ∙ sym told
+  told_class o r e v =
+      v ∙ ap (λ (m : Option ℕ). ok_or m NoSuchStation) (e ∙ answer) ∙ go (ltb u g.count) ∙ sym told
     where
       go :
-          (b : Bool) → Some bits ≡ cond b (Some (mask (class_of (classes g).reps g.count u))) None →
-          ◌≡◌ {A = Result ℕ Refusal} (Ok bits) (cond b (Ok (mask (class_of (classes g).reps g.count u))) (Err NoSuchStation))
-      go true e = cc
-      go false e = let z : ◌≡◌ {A = ℕ} 0 1 = cc in absurd (omega arith)
-
-  pub told_lacking : None ≡ bits_of reps (length reps) → Err NoSuchStation ≡ class_told forms f u
-  unfolding class_in
-  told_lacking e = go (ltb u g.count) (e ∙ answer) ∙ sym told
-    where
-      go :
-          (b : Bool) → None ≡ cond b (Some (mask (class_of (classes g).reps g.count u))) None →
-          ◌≡◌ {A = Result ℕ Refusal} (Err NoSuchStation) (cond b (Ok (mask (class_of (classes g).reps g.count u))) (Err NoSuchStation))
-      go true e = let z : ◌≡◌ {A = ℕ} 0 1 = cc in absurd (omega arith)
-      go false e = refl
+          (b : Bool) →
+          ◌≡◌ {A = Result ℕ Refusal} (ok_or (cond b (Some (mask (class_of (classes g).reps g.count u))) None) NoSuchStation) (cond b (Ok (mask (class_of (classes g).reps g.count u))) (Err NoSuchStation))
+      go true = refl
+      go false = refl
 
   -- each station of the class is carried onto u
   module _ (joined : Symmetries g reps) (bits : ℕ) (e : Some bits ≡ bits_of reps (length reps)) where
@@ -100,8 +92,8 @@ module _ (forms : List Coded) (f u : ℕ) (g : Coded) (is : form_numbered forms 
         go true t e = (ltb-true u g.count t, (cc))
         go false t e = let z : ◌≡◌ {A = ℕ} 0 1 = cc in absurd (omega arith)
 
-    pub carries_onto : CarriedOnto forms f u (Ok bits)
-    carries_onto h ones v at r b =
+    bits_carried : CarriedOnto forms f u (Ok bits)
+    bits_carried h ones v at r b =
         let one : g ≡ h = cc in
         let bit : bits ≡ ones = cc in
         subst (λ (k : Coded). (v < k.count) × ((φ : Map k k) × (φ.to v ≡ u))) one (own (subst (λ (k : ℕ). BitSet k v) (sym bit ∙ there.1) b))
@@ -113,3 +105,7 @@ module _ (forms : List Coded) (f u : ℕ) (g : Coded) (is : form_numbered forms 
         own b =
             let c = (class_bits g u v).0 b in
             (c.0, joined v u c.0 there.0 (turn (ap (λ (rs : List ℕ). same_class rs u v) same ∙ c.1)))
+
+  pub carries_onto : (joined : Symmetries g reps) (o : Option ℕ) (r : Result ℕ Refusal) → o ≡ bits_of reps (length reps) → o ≡ result_ok r → CarriedOnto forms f u r
+  carries_onto joined o r e p h ones v at k b =
+      bits_carried joined ones (sym (ap result_ok k) ∙ sym p ∙ e) h ones v at refl b

@@ -1,8 +1,8 @@
 -- What an atlas holds, part by part.
-use Rattle.std.proofs.Common.{◌≡◌, ℕ, zero, suc, ◌+◌, ◌-◌, ◌*◌, ◌<◌, min, Bool, true, false, cond, List, [], ◌∷◌, ◌++◌, map, length, get_or, Some, None, sym, refl, ap, ◌∙◌, arith}
+use Rattle.std.proofs.Common.{◌≡◌, ℕ, zero, suc, ◌+◌, ◌-◌, ◌*◌, ◌<◌, min, Bool, true, false, cond, List, [], ◌∷◌, ◌++◌, map, length, get_or, Some, None, Option, sym, refl, ap, ◌∙◌, arith}
 use Rattle.std.proofs.lemmas.List.{get_or-append_right}
 use Rattle.std.specs.List.{range_with_len}
-use Rattle.std.specs.Option.{option_map}
+use Rattle.std.specs.Option.{option_map, MatchOption}
 use Rattle.atlas.specs.Blocks.{blocks_in, block_coded, form_in, no_form, Kept}
 use Rattle.atlas.specs.Holding.{forms_in, held_of}
 use Rattle.atlas.specs.Lent.{labels_of, room_of}
@@ -44,22 +44,17 @@ pub blocks_held : {L : Type 0} (a : Atlas L) → (held_of a).blocks ≡ blocks_i
 unfolding held_of
 blocks_held a = refl
 
--- what was read of a block is its form
 module _ {X : Type 0} (means : X → Coded) (b : Coded) where
-  pub form_there : (x : X) → option_map means (Some x) ≡ cond (searchable b) (Some b) None → means x ≡ cond (searchable b) b no_form
-  form_there x e = go (searchable b) e
+  -- what can be searched is the form, and what cannot counts as the form of no stations
+  pub form_chosen :
+      (o : Option X) (r : X) → option_map means o ≡ cond (searchable b) (Some b) None → MatchOption o (means r ≡ no_form) (λ x. r ≡ x) → means r ≡ cond (searchable b) b no_form
+  form_chosen o r e m = go (searchable b) o e m
     where
-      go : (t : Bool) → option_map means (Some x) ≡ cond t (Some b) None → means x ≡ cond t b no_form
-      go true e = cc
-      go false e = let z : ◌≡◌ {A = ℕ} 0 1 = cc in absurd (omega arith)
-
-  -- where nothing was, it is the form of no stations
-  pub form_lacking : option_map means None ≡ cond (searchable b) (Some b) None → no_form ≡ cond (searchable b) b no_form
-  form_lacking e = go (searchable b) e
-    where
-      go : (t : Bool) → option_map means None ≡ cond t (Some b) None → no_form ≡ cond t b no_form
-      go true e = let z : ◌≡◌ {A = ℕ} 0 1 = cc in absurd (omega arith)
-      go false e = refl
+      go : (t : Bool) (o : Option X) → option_map means o ≡ cond t (Some b) None → MatchOption o (means r ≡ no_form) (λ x. r ≡ x) → means r ≡ cond t b no_form
+      go true None e m = let z : ◌≡◌ {A = ℕ} 0 1 = cc in absurd (omega arith)
+      go false None e m = m
+      go true (Some x) e m = cc
+      go false (Some x) e m = let z : ◌≡◌ {A = ℕ} 0 1 = cc in absurd (omega arith)
 
 -- the forms up to a number are those before it and its own
 forms_push : (f : ℕ → Coded) (a k : ℕ) → map f (range_with_len a (suc k)) ≡ map f (range_with_len a k) ++ f (a + k) ∷ []
@@ -88,11 +83,6 @@ module _ (old new : List ℕ) (k : ℕ) (g : Coded) (put : block_coded new k ≡
       ∙ ap (λ (n : ℕ). map (form_in new) (range_with_len 0 k) ++ form_in new n ∷ []) {x = 0 + k} {y = k} (omega arith)
       ∙ ap (λ (x : Coded). map (form_in new) (range_with_len 0 k) ++ x ∷ []) (ap as_form put ∙ ap (λ (b : Bool). cond b g no_form) can)
       ∙ ap (λ (gs : List Coded). gs ++ g ∷ []) (forms_agree (form_in new) (form_in old) 0 k (λ j l. ap as_form (block_other old new k j (λ e. omega arith) kept)))
-
--- its labels
-pub legend_held : {L : Type 0} (a : Atlas L) → (held_of a).legend ≡ labels_of a.legend
-unfolding held_of
-legend_held a = refl
 
 -- the last of a list
 pub last_at : {A : Type 0} (xs : List A) (x : A) (k : ℕ) (d : A) → k ≡ length xs → get_or (xs ++ x ∷ []) k d ≡ x

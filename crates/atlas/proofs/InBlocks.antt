@@ -1,10 +1,11 @@
 -- The coded network in a block of bytes, read from it and written into it.
-use Rattle.std.proofs.Common.{◌≡◌, ℕ, ◌+◌, ◌-◌, ◌*◌, ◌/◌, ◌<◌, ◌≤◌, Bool, true, cond, ◌&&◌, ltb, leb, ◌⊎◌, List, length, get_or, set, refl, ap, ◌∙◌, ap₂, inl, inr, arith, lt-ltb}
-use Rattle.std.proofs.lemmas.List.{get_or-set_same, get_or-set_other}
-use Rattle.std.proofs.lemmas.Bool.{cases_eq, cases_lt}
+use Rattle.std.proofs.Common.{◌≡◌, ℕ, ◌+◌, ◌-◌, ◌*◌, ◌/◌, ◌<◌, ◌≤◌, Bool, true, false, cond, ◌&&◌, ltb, leb, ◌⊎◌, List, ◌++◌, length, get_or, set, take, drop, refl, sym, ap, ◌∙◌, ap₂, inl, inr, arith, length-drop, length-take, get_or-take, le-ltb, lt-ltb}
+use Rattle.std.proofs.lemmas.List.{get_or-append_right, get_or-drop, get_or-set_same, get_or-set_other, get_or_past, take_at}
+use Rattle.std.proofs.lemmas.Slice.{take-put_mid_below, drop-put_mid}
+use borrow.Rule.Slice.PartMut.{put_mid, post_of}
+use Rattle.std.proofs.lemmas.Bool.{cases_lt}
 use Rattle.std.proofs.lemmas.Bool.Decides.{nat_tests}
-use Rattle.atlas.specs.Blocks.{block_coded, trimmed, code_in_order, bytes_from, Written, Kept}
-use Rattle.atlas.specs.Tables.{Listed}
+use Rattle.atlas.specs.Blocks.{block_coded, trimmed, code_in_order, Kept}
 use Rattle.search.specs.Arrays.{in_arrays}
 use Rattle.search.specs.Coded.{Coded}
 use Rattle.search.specs.Meanings.{coded}
@@ -19,28 +20,54 @@ few_stations n = n.small
 both : (a b : Bool) {x y : Bool} (f : Bool → ℕ) → x ≡ a → y ≡ b → f (x && y) ≡ f (a && b)
 both a b f p q = ap₂ (λ (s t : Bool). f (s && t)) p q
 
+-- the n places from `at` on hold the values of f, and every other place what it held
+abbrev pub Written : ℕ → ℕ → (ℕ → ℕ) → List ℕ → List ℕ → Type 0
+Written at n f before after =
+    (i : ℕ) → get_or after i 0 ≡ cond (leb at i && ltb i (at + n)) (f (i - at)) (get_or before i 0)
+
 module _ (at n : ℕ) (f : ℕ → ℕ) (before : List ℕ) where
-  -- a place more is written
-  pub written_more :
-      (y : ℕ) (now : List ℕ) → at + n < length now → y ≡ f n → Written at n f before now → Written at (n + 1) f before (set now (at + n) y)
-  written_more y now lt is h i = go (cases_eq i (at + n))
+  -- a part whose places hold the values of f is put into its place
+  pub part_written :
+      (k : ℕ) (part : List ℕ) → k ≡ n → at + n ≤ length before → length part ≡ length (take k (drop at before)) → ((i : ℕ) → i < length (take k (drop at before)) → get_or part i 0 ≡ f i) → Written at n f before (put_mid at k before part)
+  part_written k part same room as_long each i = go (cases_lt i at) (cases_lt i (at + n))
     where
-      here : i ≡ at + n → (a b : ℕ) → a ≡ cond (leb at i && ltb i (at + (n + 1))) a b
-      here e a b = grind (arith, nat_tests)
+      wide : length (take k (drop at before)) ≡ k
+      wide = omega (arith, length-take k (drop at before), length-drop at before)
 
-      there :
-          (i ≡ at + n → ⊥) → (a b : ℕ) → cond (leb at i && ltb i (at + n)) a b ≡ cond (leb at i && ltb i (at + (n + 1))) a b
-      there e a b = grind (arith, nat_tests)
+      long : length part ≡ k
+      long = as_long ∙ wide
 
-      go :
-          (i ≡ at + n) ⊎ (i ≡ at + n → ⊥) → get_or (set now (at + n) y) i 0 ≡ cond (leb at i && ltb i (at + (n + 1))) (f (i - at)) (get_or before i 0)
-      go (inl e) =
-          ap (λ (k : ℕ). get_or (set now (at + n) y) k 0) e
-          ∙ get_or-set_same now (at + n) y 0 lt
-          ∙ is
-          ∙ ap f {x = n} {y = i - at} (omega arith)
-          ∙ here e (f (i - at)) (get_or before i 0)
-      go (inr e) = get_or-set_other now (at + n) i y 0 e ∙ h i ∙ there e (f (i - at)) (get_or before i 0)
+      all : List ℕ
+      all = put_mid at k before part
+
+      low : i < at → (a b : ℕ) → b ≡ cond (leb at i && ltb i (at + n)) a b
+      low l a b = grind (arith, nat_tests)
+
+      mid : at ≤ i → i < at + n → (a b : ℕ) → a ≡ cond (leb at i && ltb i (at + n)) a b
+      mid l m a b = grind (arith, nat_tests)
+
+      high : at + n ≤ i → (a b : ℕ) → b ≡ cond (leb at i && ltb i (at + n)) a b
+      high l a b = grind (arith, nat_tests)
+
+      go : (i < at) ⊎ (at ≤ i) → (i < at + n) ⊎ (at + n ≤ i) → get_or all i 0 ≡ cond (leb at i && ltb i (at + n)) (f (i - at)) (get_or before i 0)
+      go (inl l) m =
+          sym (get_or-take at all i 0 l)
+          ∙ ap (λ (xs : List ℕ). get_or xs i 0) (take-put_mid_below at k before part at (omega arith) (omega arith))
+          ∙ get_or-take at before i 0 l
+          ∙ low l (f (i - at)) (get_or before i 0)
+      go (inr l) (inl m) =
+          get_or-append_right (take at before) (part ++ post_of at k before) at i 0 (length-take at before ∙ omega arith) l
+          ∙ sym (get_or-take k (part ++ post_of at k before) (i - at) 0 (omega arith))
+          ∙ ap (λ (xs : List ℕ). get_or xs (i - at) 0) (take_at part (post_of at k before) k long)
+          ∙ each (i - at) (omega (arith, wide))
+          ∙ mid l m (f (i - at)) (get_or before i 0)
+      go (inr l) (inr m) =
+          ap (λ (j : ℕ). get_or all j 0) {x = i} {y = at + k + (i - (at + k))} (omega arith)
+          ∙ sym (get_or-drop (at + k) all (i - (at + k)) 0)
+          ∙ ap (λ (xs : List ℕ). get_or xs (i - (at + k)) 0) (drop-put_mid at k before part (at + k) (omega arith) (omega arith) long)
+          ∙ get_or-drop (at + k) before (i - (at + k)) 0
+          ∙ ap (λ (j : ℕ). get_or before j 0) {x = at + k + (i - (at + k))} {y = i} (omega arith)
+          ∙ high m (f (i - at)) (get_or before i 0)
 
   module _ (after : List ℕ) (w : Written at n f before after) where
     -- what was written stands there
@@ -58,24 +85,46 @@ module _ (at n : ℕ) (f : ℕ → ℕ) (before : List ℕ) where
         go a b = grind (arith, nat_tests)
 
 -- the kinds and codes read from a block are those of its network
-module _ (bytes kinds codes no-kinds no-codes : List ℕ) (k : ℕ) (k0 : (i : ℕ) → get_or no-kinds i 0 ≡ 0) (c0 : (i : ℕ) → get_or no-codes i 0 ≡ 0) (ks : Listed 64 (bytes_from bytes (4161 * k + 1)) no-kinds kinds) (cs : Listed 4096 (bytes_from bytes (4161 * k + 65)) no-codes codes) where
-  read_code : (u v : ℕ) → cond (ltb v 64) (get_or codes (64 * u + v) 0) 0 ≡ (block_coded bytes k).code u v
-  read_code u v =
-      ap (λ (x : ℕ). cond (ltb v 64) x 0) (cs (64 * u + v) ∙ ap (cond (ltb (64 * u + v) 4096) (bytes_from bytes (4161 * k + 65) (64 * u + v))) (c0 (64 * u + v)))
-      ∙ ap (λ (j : ℕ). cond (ltb v 64) (cond (ltb (64 * u + v) 4096) (get_or bytes j 0) 0) 0) {x = 4161 * k + 65 + (64 * u + v)} {y = 4161 * k + 65 + 64 * u + v} (omega arith)
-      ∙ go (get_or bytes (4161 * k + 65 + 64 * u + v) 0)
+module _ (bytes kinds codes : List ℕ) (k n : ℕ) (room : 4161 * k + 4161 ≤ length bytes) (k64 : length kinds ≡ 64) (ks : (u : ℕ) → u < 64 → get_or kinds u 0 ≡ get_or bytes (4161 * k + 1 + u) 0) (n4096 : n ≡ 4096) (cs : codes ≡ take n (drop (4161 * k + 65) bytes)) where
+  read_kind : (u : ℕ) → get_or kinds u 0 ≡ (block_coded bytes k).kind u
+  read_kind u = go (cases_lt u 64)
     where
-      go : (a : ℕ) → cond (ltb v 64) (cond (ltb (64 * u + v) 4096) a 0) 0 ≡ cond (ltb u 64 && ltb v 64) a 0
-      go a = grind (arith, nat_tests)
+      go : (u < 64) ⊎ (64 ≤ u) → get_or kinds u 0 ≡ cond (ltb u 64) (get_or bytes (4161 * k + 1 + u) 0) 0
+      go (inl l) = ks u l ∙ sym (ap (λ (b : Bool). cond b (get_or bytes (4161 * k + 1 + u) 0) 0) (lt-ltb u 64 l))
+      go (inr l) =
+          get_or_past kinds u 0 (omega arith)
+          ∙ sym (ap (λ (b : Bool). cond b (get_or bytes (4161 * k + 1 + u) 0) 0) (le-ltb u 64 l))
+
+  -- the code at a place, and past the last
+  code_at : (i : ℕ) → i < 4096 → get_or codes i 0 ≡ get_or bytes (4161 * k + 65 + i) 0
+  code_at i l =
+      ap (λ (xs : List ℕ). get_or xs i 0) cs
+      ∙ get_or-take n (drop (4161 * k + 65) bytes) i 0 (omega arith)
+      ∙ get_or-drop (4161 * k + 65) bytes i 0
+
+  code_past : (i : ℕ) → 4096 ≤ i → get_or codes i 0 ≡ 0
+  code_past i l =
+      get_or_past codes i 0 (omega (arith, ap length cs, length-take n (drop (4161 * k + 65) bytes)))
+
+  read_code : (u v : ℕ) → cond (ltb v 64) (get_or codes (64 * u + v) 0) 0 ≡ (block_coded bytes k).code u v
+  read_code u v = go (cases_lt u 64) (cases_lt v 64)
+    where
+      by : (a b : Bool) (x y : ℕ) → ltb u 64 ≡ a → ltb v 64 ≡ b → cond b x 0 ≡ cond (a && b) y 0 → cond (ltb v 64) x 0 ≡ cond (ltb u 64 && ltb v 64) y 0
+      by a b x y p q e =
+          ap (λ (t : Bool). cond t x 0) q ∙ e ∙ sym (both a b (λ (t : Bool). cond t y 0) p q)
+
+      go : (u < 64) ⊎ (64 ≤ u) → (v < 64) ⊎ (64 ≤ v) → cond (ltb v 64) (get_or codes (64 * u + v) 0) 0 ≡ (block_coded bytes k).code u v
+      go (inl l) (inl m) =
+          by true true _ _ (lt-ltb u 64 l) (lt-ltb v 64 m)
+          (code_at (64 * u + v) (omega arith)
+          ∙ ap (λ (j : ℕ). get_or bytes j 0) {x = 4161 * k + 65 + (64 * u + v)} {y = 4161 * k + 65 + 64 * u + v} (omega arith))
+      go (inl l) (inr m) = by true false _ _ (lt-ltb u 64 l) (le-ltb v 64 m) refl
+      go (inr l) (inl m) = by false true _ _ (le-ltb u 64 l) (lt-ltb v 64 m) (code_past (64 * u + v) (omega arith))
+      go (inr l) (inr m) = by false false _ _ (le-ltb u 64 l) (le-ltb v 64 m) refl
 
   pub block_read : (count : ℕ) → count ≡ get_or bytes (4161 * k) 0 → in_arrays count kinds codes ≡ block_coded bytes k
   block_read count e =
-      λ i.
-      record {
-        count = e i;
-        kind = λ u. (ks u ∙ ap (cond (ltb u 64) (get_or bytes (4161 * k + 1 + u) 0)) (k0 u)) i;
-        code = λ u v. read_code u v i;
-      }
+      λ i. record { count = e i; kind = λ u. read_kind u i; code = λ u v. read_code u v i }
 
 -- after count, kinds and codes of a network were written into a block, it holds the network, and no other byte changed
 module _ (g : Coded) (small : g.count ≤ 64) (k : ℕ) (old one two new : List ℕ) (room : 4161 * k + 4161 ≤ length old) (first : one ≡ set old (4161 * k) g.count) (ks : Written (4161 * k + 1) 64 (trimmed g).kind one two) (cs : Written (4161 * k + 65) 4096 (code_in_order (trimmed g)) two new) where

@@ -1,5 +1,5 @@
 -- The labels of a legend, as they lie in its places.
-use Rattle.std.proofs.Common.{◌≡◌, ℕ, ◌<◌, min, length, get_or, take, sym, refl, ap, ◌∙◌, arith, length-take, get_or-take}
+use Rattle.std.proofs.Common.{◌≡◌, ℕ, min, length, take, sym, refl, ap, ◌∙◌, arith, length-take}
 use Rattle.atlas.specs.Lent.{labels_of, room_of}
 use Rattle.atlas.specs.declared.legend.Legend.{Legend}
 
@@ -7,11 +7,6 @@ use Rattle.atlas.specs.declared.legend.Legend.{Legend}
 pub labels_length : {L : Type 0} (l : Legend L) → length (labels_of l) ≡ l.len
 unfolding labels_of
 labels_length l = length-take l.len l.places.now ∙ (let w = l.within in omega arith)
-
--- the label at a place
-pub labels_at : {L : Type 0} (l : Legend L) (i : ℕ) (d : L) → i < l.len → get_or (labels_of l) i d ≡ get_or l.places.now i d
-unfolding labels_of
-labels_at l i d h = get_or-take l.len l.places.now i d h
 
 -- its room
 pub room_is : {L : Type 0} (l : Legend L) → room_of l ≡ min (length l.places.now) 250

@@ -7,11 +7,11 @@ pub mod Lending
 pub mod Loops
 pub mod Reading
 pub mod Stepwise
-pub mod Noting
 pub mod NotingLegs
 pub mod Joining
+pub mod Drafting
 -- coding a network
-pub mod LegCodes
+pub mod MadeArrays
 pub mod InArrays
 -- blocks of lent bytes
 pub mod InBlocks

@@ -1,6 +1,6 @@
--- Numbers of labels: senses are compared by a test, and the first place of a sense is found by going through the legend.
-use Rattle.std.proofs.Common.{◌≡◌, ℕ, suc, ◌+◌, ◌<◌, ◌≤◌, Bool, true, false, cond, eqb, List, length, get_or, drop, ℤ, Decides, refl, ap, ◌∙◌, arith}
-use Rattle.std.proofs.lemmas.List.{at_drop_more, at_drop_all}
+-- Numbers of labels: senses are compared by a test, and a number is the place of the first label that has the sense.
+use Rattle.std.proofs.Common.{◌≡◌, ℕ, suc, ◌+◌, Bool, true, false, not, cond, eqb, ltb, List, [], ◌∷◌, length, ℤ, Some, None, Decides, refl, arith}
+use Rattle.std.specs.List.{position, position_or_len}
 use Rattle.std.proofs.lemmas.Bool.Decides.{nat_tests}
 use Rattle.atlas.specs.Legends.{number_of}
 use Rattle.atlas.specs.Senses.{same_sense}
@@ -10,41 +10,39 @@ use Rattle.atlas.proofs.Senses.{sense_same, sense_refl}
 pub sense_decides : (xs ys : List ℤ) → Decides (same_sense xs ys) (xs ≡ ys)
 sense_decides xs ys = (sense_same xs ys, (λ e. rw (← e) (sense_refl xs)))
 
--- a number in the rest of a legend, as one in the whole: i places further on
-abbrev pub further : ℕ → ℕ → ℕ
-further i r = cond (eqb r 0) 0 (i + r)
+module _ {L : Type 0} (sense : L → List ℤ) (x : L) where
+  -- whether a label has the sense of x
+  abbrev pub alike : L → Bool
+  alike y = same_sense (sense x) (sense y)
 
-module _ {L : Type 0} (sense : L → List ℤ) (ls : List L) (x : L) where
-  -- the label at i has the sense, and none before it has
-  pub number_here :
-      (i : ℕ) (d y : L) → i < length ls → y ≡ get_or ls i d → sense x ≡ sense y → further i (number_of sense (drop i ls) x) ≡ i + 1
-  number_here i d y h e s =
-      let test : same_sense (sense x) (sense y) ≡ true = (sense_decides (sense x) (sense y)).1 s in
-      let first = at_drop_more (λ (l : List L). number_of sense l x) ls i d h in
-      ap (further i) first ∙ rw (← e) (here (same_sense (sense x) (sense y)) (number_of sense (drop (i + 1) ls) x) test)
+  -- the number of a label by the place of the first that has its sense
+  pub number_at : (ls : List L) → number_of sense ls x ≡ cond (ltb (position_or_len alike ls) (length ls)) (position_or_len alike ls + 1) 0
+  number_at [] = refl
+  number_at (y ∷ ys) = go (alike y) (number_at ys)
     where
-      here : (b : Bool) (r : ℕ) → b ≡ true → further i (elim b as (λ _. ℕ) [ true ↦ 1 | false ↦ elim (eqb r 0) as (λ _. ℕ) [ true ↦ 0 | false ↦ suc r ] ]) ≡ i + 1
-      here true r t = refl
-      here false r t = let z : ◌≡◌ {A = ℕ} 0 1 = cc in absurd (omega arith)
+      go :
+          (b : Bool) → number_of sense ys x ≡ cond (ltb (position_or_len alike ys) (length ys)) (position_or_len alike ys + 1) 0 →
+          elim b as (λ _. ℕ) [ true ↦ 1 | false ↦ elim (eqb (number_of sense ys x) 0) as (λ _. ℕ) [ true ↦ 0 | false ↦ suc (number_of sense ys x) ] ]
+          ≡ cond (ltb (cond (not b) (1 + position_or_len alike ys) 0) (suc (length ys))) (cond (not b) (1 + position_or_len alike ys) 0 + 1) 0
+      go true h = grind (arith, nat_tests)
+      go false h = grind (arith, nat_tests)
 
-  -- the label at i has another sense
-  pub number_later :
-      (i : ℕ) (d y : L) → i < length ls → y ≡ get_or ls i d → (sense x ≡ sense y → ⊥) → further i (number_of sense (drop i ls) x) ≡ further (i + 1) (number_of sense (drop (i + 1) ls) x)
-  number_later i d y h e s =
-      let first = at_drop_more (λ (l : List L). number_of sense l x) ls i d h in
-      ap (further i) first ∙ rw (← e) (on (same_sense (sense x) (sense y)) (number_of sense (drop (i + 1) ls) x) (λ t. s (sense_same (sense x) (sense y) t)))
+  -- the number by the place, where there is one
+  pub number_found : (ls : List L) (i : ℕ) → Some i ≡ position alike ls → i + 1 ≡ number_of sense ls x
+  number_found ls i e = go (ltb (position_or_len alike ls) (length ls)) (number_at ls) e
     where
-      on : (b : Bool) (r : ℕ) → (b ≡ true → ⊥) → further i (elim b as (λ _. ℕ) [ true ↦ 1 | false ↦ elim (eqb r 0) as (λ _. ℕ) [ true ↦ 0 | false ↦ suc r ] ]) ≡ further (i + 1) r
-      on true r t = absurd (t refl)
-      on false r t = grind (arith, nat_tests)
+      go :
+          (b : Bool) → number_of sense ls x ≡ cond b (position_or_len alike ls + 1) 0 → Some i ≡ cond b (Some (position_or_len alike ls)) None →
+          i + 1 ≡ number_of sense ls x
+      go true n e = let s : i ≡ position_or_len alike ls = cc in omega arith
+      go false n e = let z : ◌≡◌ {A = ℕ} 0 1 = cc in absurd (omega arith)
 
-  -- past the last label the sense is lacking
-  pub number_none : (i : ℕ) → length ls ≤ i → further i (number_of sense (drop i ls) x) ≡ 0
-  number_none i h = ap (further i) (at_drop_all (λ (l : List L). number_of sense l x) ls i h)
-
-  -- in the whole legend it is no further on
-  pub number_whole : further 0 (number_of sense (drop 0 ls) x) ≡ number_of sense ls x
-  number_whole = whole (number_of sense ls x)
+  -- and 0 where there is none
+  pub number_lacking : (ls : List L) → None ≡ position alike ls → 0 ≡ number_of sense ls x
+  number_lacking ls e = go (ltb (position_or_len alike ls) (length ls)) (number_at ls) e
     where
-      whole : (r : ℕ) → further 0 r ≡ r
-      whole r = grind (arith, nat_tests)
+      go :
+          (b : Bool) → number_of sense ls x ≡ cond b (position_or_len alike ls + 1) 0 → None ≡ cond b (Some (position_or_len alike ls)) None →
+          0 ≡ number_of sense ls x
+      go true n e = let z : ◌≡◌ {A = ℕ} 0 1 = cc in absurd (omega arith)
+      go false n e = omega arith

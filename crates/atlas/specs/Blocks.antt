@@ -1,5 +1,5 @@
 -- Blocks of lent bytes: which coded network a block holds.
-use Rattle.std.specs.Prelude.{◌≡◌, ℕ, ◌+◌, ◌-◌, ◌*◌, ◌/◌, ◌%◌, min, false, cond, ◌&&◌, List, length, nat_le, nat_lt, slice_index}
+use Rattle.std.specs.Prelude.{◌≡◌, ℕ, ◌+◌, ◌*◌, ◌/◌, ◌%◌, min, false, cond, ◌&&◌, List, length, nat_le, nat_lt, slice_index}
 use Rattle.search.specs.Arrays.{searchable}
 use Rattle.search.specs.Coded.{Coded}
 
@@ -34,15 +34,6 @@ trimmed g = record {
 -- the codes in the order in which they stand: those of station u from 64 u on
 abbrev pub code_in_order : Coded → ℕ → ℕ
 code_in_order g i = g.code (i / 64) (i % 64)
-
--- the bytes from a place on
-abbrev pub bytes_from : List ℕ → ℕ → ℕ → ℕ
-bytes_from bytes at i = slice_index bytes (at + i)
-
--- the n places from `at` on hold the values of f, and every other place what it held
-abbrev pub Written : ℕ → ℕ → (ℕ → ℕ) → List ℕ → List ℕ → Type 0
-Written at n f before after =
-    (i : ℕ) → slice_index after i ≡ cond (nat_le at i && nat_lt i (at + n)) (f (i - at)) (slice_index before i)
 
 -- every place but the n from `at` on holds what it held
 abbrev pub Kept : ℕ → ℕ → List ℕ → List ℕ → Type 0

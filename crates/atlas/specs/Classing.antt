@@ -22,6 +22,7 @@ abbrev pub told_in : Option Coded → ℕ → Result ℕ Refusal
 told_in None u = Err NoSuchForm
 told_in (Some g) u = class_in g u
 
+-- the same, where the form is looked up by its number
 unfoldable pub class_told : List Coded → ℕ → ℕ → Result ℕ Refusal
 class_told forms f u = told_in (form_numbered forms f) u
 

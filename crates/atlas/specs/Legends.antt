@@ -1,11 +1,16 @@
 -- The legend: labels of different senses, whose places number them; and networks coded by it.
-use Rattle.std.specs.Prelude.{ℕ, suc, true, false, List, [], ◌∷◌, ◌++◌, ℤ, Some, None, Option, ◌==◌}
+use Rattle.std.specs.Prelude.{ℕ, suc, Bool, true, false, List, [], ◌∷◌, ◌++◌, ℤ, Some, None, Option, ◌==◌}
 use Rattle.std.specs.List.{range_with_len}
 use Rattle.atlas.specs.Senses.{same_sense}
 use Rattle.search.specs.Coded.{Coded}
 use Rattle.survey.specs.Networks.{Net}
 
 module _ {L : Type 0} (sense : L → List ℤ) where
+  -- whether a leg has a label of the sense of x
+  abbrev pub has_sense : L → Option L → Bool
+  has_sense x None = false
+  has_sense x (Some y) = same_sense (sense x) (sense y)
+
   -- the number of a label: the place of its sense in the legend, from 1; 0 where it is lacking
   abbrev pub number_of : List L → L → ℕ
   number_of [] x = 0

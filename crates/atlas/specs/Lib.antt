@@ -4,7 +4,6 @@ pub mod Lent
 pub mod FirstLegs
 pub mod Calls
 pub mod Readings
-pub mod Tables
 pub mod Blocks
 pub mod Holding
 pub mod Seeking

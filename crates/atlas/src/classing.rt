@@ -18,9 +18,9 @@ impl<'a, L: Label> Atlas<'a, L> {
             return Err(Refusal::NoSuchForm);
         }
         let network = self.form(form as usize - 1);
-        match network.classes().class_of(station as usize) {
-            Some(bits) => Ok(bits),
-            None => Err(Refusal::NoSuchStation),
-        }
+        network
+            .classes()
+            .class_of(station as usize)
+            .ok_or(Refusal::NoSuchStation)
     }
 }

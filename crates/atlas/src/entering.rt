@@ -1,7 +1,7 @@
 // Entering a network into an atlas.
 ghost use Rattle.std.specs.Prelude.{◌≤◌, length};
 ghost use Rattle.atlas.specs.Answering.{Carried, KeepsLaw, entering, put_to, unmet};
-ghost use Rattle.atlas.specs.Drafts.{Drafted};
+ghost use Rattle.atlas.specs.Drafts.{net_of, Completes};
 ghost use Rattle.atlas.specs.Holding.{held_of};
 ghost use Rattle.atlas.specs.Legends.{full_legend};
 ghost use Rattle.atlas.specs.Lent.{labels_of};
@@ -9,9 +9,7 @@ ghost use Rattle.survey.specs.declared.pairing.Pairing.{Pairing as APairing};
 
 use crate::Atlas;
 use crate::answer::Answer;
-use crate::coding::{coded, read};
 use crate::draft::Draft;
-use crate::first_legs::calls::join;
 use crate::seeking::Sought;
 use survey::label::Label;
 use survey::network::Network;
@@ -23,21 +21,20 @@ impl<'a, L: Label> Atlas<'a, L> {
     // it is written into the next block. Refused where no block is free. The legend has places for the labels.
     fn number<N: Network<Label = L>>(
         &mut self,
-        net: &N,
-        draft: &Draft,
+        draft: &Draft<'_, N>,
         trials: u32,
     ) -> Result<Answer, Refusal>
-        requires drafted { Drafted L.Label.sense (N.Network.means net.now) self.old.legend draft.now }
-        requires places { length (full_legend L.Label.sense (N.Network.means net.now) (labels_of self.old.legend)) ≤ (held_of self.old).places }
+        requires complete { Completes draft.now self.old.legend }
+        requires places { length (full_legend L.Label.sense (net_of draft.now) (labels_of self.old.legend)) ≤ (held_of self.old).places }
         ensures { (p : APairing) → Carried L.Label.sense
-            (unmet L.Label.sense (held_of self.old) (N.Network.means net.now) trials)
+            (unmet L.Label.sense (held_of self.old) (net_of draft.now) trials)
             result p p self.old self.new }
     {
         if self.count() == self.blocks() {
             return Err(Refusal::AtlasFull);
         }
-        join(net, &draft.missing, &mut self.legend);
-        let form = coded(net, draft.stations, &self.legend);
+        draft.join(&mut self.legend);
+        let form = draft.coded(&self.legend);
         self.store(&form);
         Ok(Answer::New {
             form: self.count() as u8,
@@ -60,17 +57,17 @@ impl<'a, L: Label> Atlas<'a, L> {
             result place.old place.new }
     {
         let free = self.legend.free();
-        let Some(draft) = read(net, &self.legend, free)? else {
+        let Some(draft) = Draft::read(net, &self.legend, free)? else {
             return Err(Refusal::LegendFull);
         };
-        if draft.missing.len() != 0 {
+        if draft.has_missing() {
             // The legend lacks a sense, so no form has it.
-            return self.number(net, &draft, 0);
+            return self.number(&draft, 0);
         }
-        let network = coded(net, draft.stations, &self.legend);
+        let network = draft.coded(&self.legend);
         match self.seek(&network, allowance, place) {
             Sought::Found { form, trials } => Ok(Answer::Known { form, trials }),
-            Sought::Nowhere { trials } => self.number(net, &draft, trials),
+            Sought::Nowhere { trials } => self.number(&draft, trials),
             Sought::Spent => Ok(Answer::Spent { trials: allowance }),
         }
     }

@@ -4,7 +4,7 @@ ghost use Rattle.atlas.specs.Holding.{held_of};
 
 use crate::Atlas;
 use crate::answer::Answer;
-use crate::coding::{coded, read};
+use crate::draft::Draft;
 use crate::seeking::Sought;
 use survey::label::Label;
 use survey::network::Network;
@@ -25,11 +25,11 @@ impl<'a, L: Label> Atlas<'a, L> {
         ensures law { KeepsLaw L.Label.sense (held_of self.now) (finding (N.Network.means net.now) allowance)
             result place.old place.new }
     {
-        let Some(draft) = read(net, &self.legend, 0)? else {
+        let Some(draft) = Draft::read(net, &self.legend, 0)? else {
             // The legend lacks a sense, so no form has it.
             return Ok(Answer::Unknown { trials: 0 });
         };
-        let network = coded(net, draft.stations, &self.legend);
+        let network = draft.coded(&self.legend);
         match self.seek(&network, allowance, place) {
             Sought::Found { form, trials } => Ok(Answer::Known { form, trials }),
             Sought::Nowhere { trials } => Ok(Answer::Unknown { trials }),

@@ -6,8 +6,13 @@ pub mod calls;
 // How many places are used at most.
 pub const MOST_LABELS: usize = 250;
 
+// No place is left for a label.
+#[derive(Clone, Copy, PartialEq, Eq, Debug)]
+pub struct NoPlace;
+
 // Labels of different senses, in the order in which they joined. At most the first 250 places are used, so that a
-// label's number fits a byte.
+// label's number fits a byte. The places are lent, since nothing is allocated here, so how many are used stands beside
+// them.
 #[derive(Drop)]
 pub struct Legend<'a, L> {
     places: &'a mut [L],

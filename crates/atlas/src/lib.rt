@@ -8,15 +8,11 @@ use legend::Legend;
 pub mod answer;
 pub mod block;
 pub mod classing;
-mod coder;
-mod coding;
 mod draft;
 pub mod entering;
 pub mod finding;
-mod first_legs;
 pub mod law;
 pub mod legend;
-mod missing;
 pub mod opening;
 pub mod reader;
 pub mod request;
@@ -25,7 +21,8 @@ mod seeking;
 mod storing;
 
 // The forms that were numbered, in the first blocks of lent bytes, and the legend that they are coded by. A count beyond
-// the blocks counts as all of them, and a block that cannot be searched as a form of no stations.
+// the blocks counts as all of them, and a block that cannot be searched as a form of no stations. The bytes are lent,
+// since nothing is allocated here, so the number of forms stands beside them.
 #[derive(Drop)]
 pub struct Atlas<'a, L> {
     bytes: &'a mut [u8],

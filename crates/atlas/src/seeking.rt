@@ -9,7 +9,7 @@ ghost use Rattle.search.specs.Meanings.{coded};
 use crate::Atlas;
 use crate::block::{BLOCK, read_block};
 use search::answer::Answer;
-use search::coded::CodedNetwork;
+use search::coded::{CodedNetwork, MOST_CODES, MOST_STATIONS};
 use search::searching::search;
 use survey::label::Label;
 use survey::pairing::Pairing;
@@ -30,10 +30,7 @@ const MOST_BLOCKS: usize = 200;
 fn no_form() -> CodedNetwork
     ensures { coded result ≡ no_form }
 {
-    match CodedNetwork::new(0, &[0; 64], &[0; 4096]) {
-        Some(form) => form,
-        None => unreachable(),
-    }
+    CodedNetwork::new(0, &[0; MOST_STATIONS], &[0; MOST_CODES]).unwrap()
 }
 
 impl<'a, L: Label> Atlas<'a, L> {
@@ -56,10 +53,7 @@ impl<'a, L: Label> Atlas<'a, L> {
         requires { k < length (held_of self.now).forms }
         ensures { coded result ≡ form_in (bytes_of self.now) k }
     {
-        match read_block(&*self.bytes, k) {
-            Some(form) => form,
-            None => no_form(),
-        }
+        read_block(&*self.bytes, k).unwrap_or_else(no_form)
     }
 
     // Searches the forms one after another for a map to the network, up to the first that has one. The place holds it
@@ -71,6 +65,7 @@ impl<'a, L: Label> Atlas<'a, L> {
             place.old place.new }
     {
         let mut trials = 0;
+        // Each form is read out of its block by its number: there is no slice of forms to go over.
         for k in 0..self.count() {
             let form = self.form(k);
             match search(&form, network, allowance - trials, place) {

@@ -1,9 +1,9 @@
 // What a legend is asked.
-ghost use Rattle.std.specs.Prelude.{◌≡◌, ◌-◌, min, cond, [], ◌∷◌, ◌++◌, length, if◌then◌else◌, nat_lt, slice_set};
+ghost use Rattle.std.specs.Prelude.{◌≡◌, ◌-◌, min, cond, [], ◌∷◌, ◌++◌, length, if◌then◌else◌, is_ok, nat_lt, slice_set};
 ghost use Rattle.atlas.specs.Legends.{number_of};
 ghost use Rattle.atlas.specs.Lent.{labels_of, room_of};
 
-use crate::legend::{Legend, MOST_LABELS};
+use crate::legend::{Legend, MOST_LABELS, NoPlace};
 use survey::label::Label;
 
 impl<'a, L: Label> Legend<'a, L> {
@@ -30,34 +30,38 @@ impl<'a, L: Label> Legend<'a, L> {
         self.places.len().min(MOST_LABELS) - self.len
     }
 
-    // The number of a label's sense, from 1; 0 where it is lacking.
+    // Its labels, in order.
+    fn labels(&self) -> &[L]
+        ensures { result.now ≡ labels_of self.now }
+    {
+        &self.places[..self.len]
+    }
+
+    // The number of a label's sense, from 1, and 0 where it is lacking: a byte, since it is the code of a leg.
     pub fn number(&self, label: &L) -> u8
         ensures { result ≡ number_of L.Label.sense (labels_of self.now) label.now }
     {
-        let places = &*self.places;
-        for i in 0..self.len {
-            if label.same(&places[i]) {
-                return i as u8 + 1;
-            }
+        match self.labels().iter().position(|held| label.same(held)) {
+            Some(i) => i as u8 + 1,
+            None => 0,
         }
-        0
     }
 
-    // Adds a label at the end, and says whether there was a place for it.
-    pub fn add(&mut self, label: L) -> bool
-        ensures place { result ≡ nat_lt (length (labels_of self.old)) (room_of self.old) }
+    // Adds a label at the end, if there is a place for it.
+    pub fn add(&mut self, label: L) -> Result<(), NoPlace>
+        ensures place { is_ok result ≡ nat_lt (length (labels_of self.old)) (room_of self.old) }
         ensures labels { labels_of self.new
-            ≡ (if result then labels_of self.old ++ label ∷ [] else labels_of self.old) }
+            ≡ (if is_ok result then labels_of self.old ++ label ∷ [] else labels_of self.old) }
         ensures room { room_of self.new ≡ room_of self.old }
         ensures others { self.new.places.now
-            ≡ cond result (slice_set self.old.places.now (length (labels_of self.old)) label)
+            ≡ cond (is_ok result) (slice_set self.old.places.now (length (labels_of self.old)) label)
             self.old.places.now }
     {
         if self.free() == 0 {
-            return false;
+            return Err(NoPlace);
         }
         self.places[self.len] = label;
         self.len += 1;
-        true
+        Ok(())
     }
 }

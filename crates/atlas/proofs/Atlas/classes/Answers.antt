@@ -1,11 +1,11 @@
 use Rattle.std.proofs.Common.{◌≡◌, ◌+◌, ◌-◌, ◌<◌, List, length, get_or, Some, Option, sym, ap, ◌∙◌, arith}
 use Rattle.search.specs.Coded.{Coded}
 use Rattle.search.specs.Meanings.{coded, reps_of}
-use Rattle.survey.specs.declared.refusal.Refusal.TheVariants.{NoSuchForm, NoSuchStation}
+use Rattle.survey.specs.declared.refusal.Refusal.TheVariants.{NoSuchForm}
 use Rattle.atlas.specs.Blocks.{form_in, no_form}
 use Rattle.atlas.specs.Classing.{form_numbered}
 use Rattle.atlas.specs.Holding.{held_of, bytes_of}
-use Rattle.atlas.proofs.ClassBits.{forms_at, numbered_none, numbered_some, told_none, nothing_carried, told_some, told_lacking, carries_onto}
+use Rattle.atlas.proofs.ClassBits.{forms_at, numbered_none, numbered_some, told_none, nothing_carried, told_class, carries_onto}
 use Rattle.atlas.proofs.Holding.{forms_held}
 use Rattle.atlas.proofs.Atlas.classes.Goals as goal
 use Rattle.atlas.proofs.Atlas.classes.Goals.{then-form-eq0-via-then-form-eq0, then-form-eq0-via-else-form-eq0+then-form-count}
@@ -26,9 +26,9 @@ returns-then-form-eq0 g c =
 pub form-network-requires : goal.form-network-requires
 form-network-requires g c = omega (arith, c.if-form-eq0.false, c.if-form-count.false, c.count.ensures)
 
-pub returns-in-Some : goal.returns-in-Some
+pub returns : goal.returns
 unfolding bytes_of
-returns-in-Some g c =
+returns g c =
     let a = c.args.self.now in
     let forms = (held_of a).forms in
     let f = c.args.form in
@@ -37,21 +37,6 @@ returns-in-Some g c =
     let at : get_or forms (f - 1) no_form ≡ network = ap (λ (gs : List Coded). get_or gs (f - 1) no_form) (forms_held a) ∙ forms_at (form_in (bytes_of a)) 0 (length forms) (f - 1) no_form low ∙ ap (form_in (bytes_of a)) {x = 0 + (f - 1)} {y = f - 1} (omega arith) ∙ sym c.form-network.ensures in
     let is : form_numbered forms f ≡ Some network = numbered_some forms f (omega (arith, c.if-form-eq0.false)) (omega arith) ∙ ap {B = Option Coded} Some at in
     record {
-      class = told_some forms f c.args.station network is (reps_of c.classes.result) c.classes.ensures.reps c.in-Some.bits c.in-Some.ensures;
-      symmetric = carries_onto forms f c.args.station network is (reps_of c.classes.result) c.classes.ensures.reps c.classes.ensures.symmetric c.in-Some.bits c.in-Some.ensures;
-    }
-
-pub returns-in-None : goal.returns-in-None
-unfolding bytes_of
-returns-in-None g c =
-    let a = c.args.self.now in
-    let forms = (held_of a).forms in
-    let f = c.args.form in
-    let network = coded c.form-network.result in
-    let low : f - 1 < length forms = omega (arith, c.if-form-eq0.false, c.if-form-count.false, c.count.ensures) in
-    let at : get_or forms (f - 1) no_form ≡ network = ap (λ (gs : List Coded). get_or gs (f - 1) no_form) (forms_held a) ∙ forms_at (form_in (bytes_of a)) 0 (length forms) (f - 1) no_form low ∙ ap (form_in (bytes_of a)) {x = 0 + (f - 1)} {y = f - 1} (omega arith) ∙ sym c.form-network.ensures in
-    let is : form_numbered forms f ≡ Some network = numbered_some forms f (omega (arith, c.if-form-eq0.false)) (omega arith) ∙ ap {B = Option Coded} Some at in
-    record {
-      class = told_lacking forms f c.args.station network is (reps_of c.classes.result) c.classes.ensures.reps c.in-None.ensures;
-      symmetric = nothing_carried forms f c.args.station NoSuchStation;
+      class = told_class forms f c.args.station network is (reps_of c.classes.result) c.classes.ensures.reps c.class_of.result c.ok_or.result c.class_of.ensures c.ok_or.ensures.value;
+      symmetric = carries_onto forms f c.args.station network is (reps_of c.classes.result) c.classes.ensures.reps c.classes.ensures.symmetric c.class_of.result c.ok_or.result c.class_of.ensures c.ok_or.ensures.ok_part;
     }

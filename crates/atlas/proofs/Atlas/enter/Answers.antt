@@ -1,25 +1,25 @@
-use Rattle.std.proofs.Common.{ℕ, ◌<◌, ◌≤◌, length, Ok, Err, Option, Result, sym, refl, ap, ◌∙◌, subst, arith}
-use Rattle.std.specs.List.{range_with_len}
+use Rattle.std.proofs.Common.{◌≡◌, ◌≤◌, length, Err, Result, sym, refl, ap, ◌∙◌, subst, arith}
 use Rattle.std.proofs.lemmas.Result.{err_from_is_err_and}
 use Rattle.search.specs.Coded.{Coded}
 use Rattle.search.specs.Meanings.{coded}
+use Rattle.survey.specs.Networks.{Net}
 use Rattle.atlas.specs.Answering.{Says, Carried, entering, unmet}
-use Rattle.atlas.specs.Calls.{first_loop, sought_in, nothing_sought}
+use Rattle.atlas.specs.Calls.{answered, settled, sought_in, nothing_sought}
 use Rattle.atlas.specs.Calls.Reply.{known, spent, legend_full}
-use Rattle.atlas.specs.Drafts.{Reads}
+use Rattle.atlas.specs.Drafts.{net_of}
 use Rattle.atlas.specs.Holding.{held_of}
-use Rattle.atlas.specs.Legends.{full_legend}
+use Rattle.atlas.specs.Legends.{coded_by, full_legend}
+use Rattle.atlas.specs.Lent.{labels_of}
 use Rattle.atlas.specs.declared.answer.Answer.{Answer}
-use Rattle.atlas.specs.declared.draft.Draft.{Draft}
 use Rattle.survey.specs.declared.pairing.Pairing.{Pairing}
 use Rattle.survey.specs.declared.refusal.Refusal.{Refusal}
 use Rattle.survey.specs.declared.refusal.Refusal.TheVariants.{LegendFull}
 use Rattle.atlas.proofs.Answered.{refused_read, sought_lacking, sought_known, settled_unsought, settled_found, settled_nowhere, settled_spent, enter_settles, enter_full}
+use Rattle.atlas.proofs.Drafting.{reads_some, reads_none, labels_fit, labels_over, drafted_read, missing_lacks, none_lacks}
 use Rattle.atlas.proofs.LawfulCalls.{keeps_law, carried, quiet}
-use Rattle.atlas.proofs.Lending.{labels_length, room_is}
-use Rattle.atlas.proofs.NotingLegs.{all_length}
-use Rattle.atlas.proofs.Reading.{read_ok}
+use Rattle.atlas.proofs.Lending.{room_is}
 use Rattle.atlas.proofs.Atlas.enter.Goals as goal
+use Rattle.atlas.proofs.Atlas.enter.Goals.{In-Some, After-coded-network}
 
 pub read-requires : goal.read-requires
 read-requires g c = omega (arith, c.free-free.ensures, room_is c.args.self.now.legend)
@@ -49,79 +49,74 @@ returns-in_default g c =
     let a = c.args.self.now in
     let s = held_of a in
     let call = entering n c.args.allowance in
-    let read = subst (λ (o : Option Draft). Reads sense n a.legend c.free-free.result (Ok o)) c.in_default.is c.in_ok-draft.ensures in
-    let many : s.places < length (full_legend sense n s.legend) = omega (arith, read.1, c.free-free.ensures, labels_length a.legend, room_is a.legend, a.legend.within) in
-    let is = enter_full sense s n c.args.allowance n.count read.0 many in
+    let r = reads_none n a.legend _ _ c.in_default.is c.in_ok-draft.ensures in
+    let is = enter_full sense s n c.args.allowance n.count r.0 (labels_over a.legend _ c.free-free.result c.free-free.ensures r.1) in
     let done = quiet sense a legend_full (Err LegendFull) c.args.place.now c.args.place.now (record { answer = refl; place = refl }) (λ bytes places. (refl, refl)) in
     record { carried = carried sense a _ call _ is _ _ _ done; law = keeps_law sense s call _ is _ _ _ done.says }
 
-pub number-requires : goal.number-requires
+-- the missing labels find places, as those of the draft's own network
+fit :
+    (g : _) (c : In-Some g) →
+    length (full_legend g.L.Label.sense (net_of c.in-Some.draft) (labels_of c.args.self.now.legend)) ≤ (held_of c.args.self.now).places
 unfolding held_of
+fit g c =
+    let l = c.args.self.now.legend in
+    let r = reads_some _ l _ _ c.in-Some.draft c.in-Some.is c.in_ok-draft.ensures in
+    omega (arith, labels_fit l _ c.free-free.result c.free-free.ensures r.2, ap (λ (k : Net g.row.L.Denot). length (full_legend g.L.Label.sense k (labels_of l))) r.0)
+
+pub number-requires : goal.number-requires
 number-requires g c =
-    let sense = g.L.Label.sense in
-    let n = g.N.Network.means c.args.net.now in
-    let a = c.args.self.now in
-    let s = held_of a in
-    let call = entering n c.args.allowance in
-    let read = subst (λ (o : Option Draft). Reads sense n a.legend c.free-free.result (Ok o)) c.in-Some.is c.in_ok-draft.ensures in
-    let placed : length (full_legend sense n s.legend) ≤ s.places = omega (arith, read.1, c.free-free.ensures, labels_length a.legend, room_is a.legend, a.legend.within) in
-    record { drafted = read.0; places = placed }
-
-pub returns-then-len-ne0 : goal.returns-then-len-ne0
-unfolding held_of unmet
-returns-then-len-ne0 g c =
-    let sense = g.L.Label.sense in
-    let n = g.N.Network.means c.args.net.now in
-    let a = c.args.self.now in
-    let s = held_of a in
-    let call = entering n c.args.allowance in
-    let read = subst (λ (o : Option Draft). Reads sense n a.legend c.free-free.result (Ok o)) c.in-Some.is c.in_ok-draft.ensures in
-    let placed : length (full_legend sense n s.legend) ≤ s.places = omega (arith, read.1, c.free-free.ensures, labels_length a.legend, room_is a.legend, a.legend.within) in
-    let lacks : length s.legend < length (full_legend sense n s.legend) = omega (arith, ap length read.0.labels, all_length a.legend n c.in-Some.draft.missing read.0.noted, c.len.ensures, c.if-len-ne0.true) in
-    let is = enter_settles sense s n c.args.allowance n.count nothing_sought read.0.read placed (sought_lacking sense s n lacks) ∙ settled_unsought sense s n call (full_legend sense n s.legend) in
-    let done = c.number.ensures c.args.place.now in
-    record { carried = carried sense a _ call _ is _ _ _ done; law = keeps_law sense s call _ is _ _ _ done.says }
-
-pub coded-network-requires : goal.coded-network-requires
-coded-network-requires g c =
-    let sense = g.L.Label.sense in
-    let n = g.N.Network.means c.args.net.now in
-    let a = c.args.self.now in
-    let read = subst (λ (o : Option Draft). Reads sense n a.legend c.free-free.result (Ok o)) c.in-Some.is c.in_ok-draft.ensures in
-    let can = (read_ok sense n n.count (sym read.0.read)).1 in
-    record {
-      stations = read.0.stations;
-      few = omega (arith, read.0.stations, can.few);
-      loopless = ap (λ (k : ℕ). first_loop sense n (range_with_len 0 k)) read.0.stations ∙ can.loopless;
-    }
+    let r = reads_some _ c.args.self.now.legend _ _ c.in-Some.draft c.in-Some.is c.in_ok-draft.ensures in
+    record { complete = r.1; places = fit g (goal.at.number-requires g c).In-Some }
 
 pub number-requires-in-Nowhere : goal.number-requires-in-Nowhere
-unfolding held_of
 number-requires-in-Nowhere g c =
+    let r = reads_some _ c.args.self.now.legend _ _ c.in-Some.draft c.in-Some.is c.in_ok-draft.ensures in
+    record { complete = r.1; places = fit g (goal.at.number-requires-in-Nowhere g c).In-Some }
+
+pub returns-then-has_missing : goal.returns-then-has_missing
+unfolding held_of unmet
+returns-then-has_missing g c =
     let sense = g.L.Label.sense in
     let n = g.N.Network.means c.args.net.now in
     let a = c.args.self.now in
     let s = held_of a in
+    let d = c.in-Some.draft in
     let call = entering n c.args.allowance in
-    let read = subst (λ (o : Option Draft). Reads sense n a.legend c.free-free.result (Ok o)) c.in-Some.is c.in_ok-draft.ensures in
-    let placed : length (full_legend sense n s.legend) ≤ s.places = omega (arith, read.1, c.free-free.ensures, labels_length a.legend, room_is a.legend, a.legend.within) in
-    record { drafted = read.0; places = placed }
+    let r = reads_some n a.legend _ _ d c.in-Some.is c.in_ok-draft.ensures in
+    let placed = labels_fit a.legend _ c.free-free.result c.free-free.ensures r.2 in
+    let lacks = missing_lacks d a.legend n r.0 r.1 c.has_missing.result c.has_missing.ensures c.if-has_missing.true in
+    let is = enter_settles sense s n c.args.allowance d.stations nothing_sought (drafted_read d a.legend n r.0) placed (sought_lacking sense s n lacks) ∙ settled_unsought sense s n call (full_legend sense n s.legend) in
+    let done = subst (λ (k : Net g.row.L.Denot). Carried sense (unmet sense s k 0) c.number.result c.args.place.now c.args.place.now a c.number.new.self) r.0 (c.number.ensures c.args.place.now) in
+    record { carried = carried sense a _ call _ is _ _ _ done; law = keeps_law sense s call _ is _ _ _ done.says }
+
+-- the forms are searched for the network as it is coded, and that settles the answer
+settles :
+    (g : _) (c : After-coded-network g) →
+    answered g.L.Label.sense (held_of c.args.self.now) (entering (g.N.Network.means c.args.net.now) c.args.allowance)
+    ≡ settled g.L.Label.sense (held_of c.args.self.now) (entering (g.N.Network.means c.args.net.now) c.args.allowance) (full_legend g.L.Label.sense (g.N.Network.means c.args.net.now) (held_of c.args.self.now).legend) (sought_in (coded c.coded-network.result) 1 (held_of c.args.self.now).forms)
+unfolding held_of
+settles g c =
+    let sense = g.L.Label.sense in
+    let n = g.N.Network.means c.args.net.now in
+    let a = c.args.self.now in
+    let s = held_of a in
+    let d = c.in-Some.draft in
+    let r = reads_some n a.legend _ _ d c.in-Some.is c.in_ok-draft.ensures in
+    let placed = labels_fit a.legend _ c.free-free.result c.free-free.ensures r.2 in
+    let few = none_lacks d a.legend n r.0 r.1 c.has_missing.result c.has_missing.ensures c.if-has_missing.false in
+    let form : coded_by sense s.legend n ≡ coded c.coded-network.result = ap (coded_by sense s.legend) (sym r.0) ∙ sym c.coded-network.ensures in
+    enter_settles sense s n c.args.allowance d.stations (sought_in (coded c.coded-network.result) 1 s.forms) (drafted_read d a.legend n r.0) placed (sought_known sense s n few ∙ ap (λ (h : Coded). sought_in h 1 s.forms) form)
 
 pub returns-in-Found : goal.returns-in-Found
-unfolding held_of
 returns-in-Found g c =
     let sense = g.L.Label.sense in
     let n = g.N.Network.means c.args.net.now in
     let a = c.args.self.now in
     let s = held_of a in
     let call = entering n c.args.allowance in
-    let read = subst (λ (o : Option Draft). Reads sense n a.legend c.free-free.result (Ok o)) c.in-Some.is c.in_ok-draft.ensures in
-    let placed : length (full_legend sense n s.legend) ≤ s.places = omega (arith, read.1, c.free-free.ensures, labels_length a.legend, room_is a.legend, a.legend.within) in
     let o = sought_in (coded c.coded-network.result) 1 s.forms in
-    let few : length (full_legend sense n s.legend) ≤ length s.legend = omega (arith, ap length read.0.labels, all_length a.legend n c.in-Some.draft.missing read.0.noted, c.len.ensures, c.if-len-ne0.false) in
-    let searched = sought_known sense s n few ∙ ap (λ (h : Coded). sought_in h 1 s.forms) (sym c.coded-network.ensures) in
-    let settles = enter_settles sense s n c.args.allowance n.count o read.0.read placed searched in
-    let is = settles ∙ settled_found sense s n call (full_legend sense n s.legend) o c.in-Found.form c.in-Found.trials c.in-Found.ensures.answer in
+    let is = settles g (goal.at.returns-in-Found g c).After-coded-network ∙ settled_found sense s n call (full_legend sense n s.legend) o c.in-Found.form c.in-Found.trials c.in-Found.ensures.answer in
     let done = quiet sense a (known c.in-Found.form c.in-Found.trials _) _ c.args.place.now c.seek.new.place (record { answer = refl; place = c.in-Found.ensures.placed }) (λ bytes places. (refl, refl)) in
     record { carried = carried sense a _ call _ is _ _ _ done; law = keeps_law sense s call _ is _ _ _ done.says }
 
@@ -133,30 +128,21 @@ returns-in-Nowhere g c =
     let a = c.args.self.now in
     let s = held_of a in
     let call = entering n c.args.allowance in
-    let read = subst (λ (o : Option Draft). Reads sense n a.legend c.free-free.result (Ok o)) c.in-Some.is c.in_ok-draft.ensures in
-    let placed : length (full_legend sense n s.legend) ≤ s.places = omega (arith, read.1, c.free-free.ensures, labels_length a.legend, room_is a.legend, a.legend.within) in
+    let r = reads_some n a.legend _ _ c.in-Some.draft c.in-Some.is c.in_ok-draft.ensures in
     let o = sought_in (coded c.coded-network.result) 1 s.forms in
-    let few : length (full_legend sense n s.legend) ≤ length s.legend = omega (arith, ap length read.0.labels, all_length a.legend n c.in-Some.draft.missing read.0.noted, c.len.ensures, c.if-len-ne0.false) in
-    let searched = sought_known sense s n few ∙ ap (λ (h : Coded). sought_in h 1 s.forms) (sym c.coded-network.ensures) in
-    let settles = enter_settles sense s n c.args.allowance n.count o read.0.read placed searched in
-    let is = settles ∙ settled_nowhere sense s n call (full_legend sense n s.legend) o c.in-Nowhere.trials c.in-Nowhere.ensures.answer in
-    let done = subst (λ (q : Pairing). Carried sense (unmet sense s n c.in-Nowhere.trials) c.number-in-Nowhere.result q c.seek.new.place a c.number-in-Nowhere.new.self) c.in-Nowhere.ensures.placed (c.number-in-Nowhere.ensures c.seek.new.place) in
+    let is = settles g (goal.at.returns-in-Nowhere g c).After-coded-network ∙ settled_nowhere sense s n call (full_legend sense n s.legend) o c.in-Nowhere.trials c.in-Nowhere.ensures.answer in
+    let made = subst (λ (k : Net g.row.L.Denot). Carried sense (unmet sense s k c.in-Nowhere.trials) c.number-in-Nowhere.result c.seek.new.place c.seek.new.place a c.number-in-Nowhere.new.self) r.0 (c.number-in-Nowhere.ensures c.seek.new.place) in
+    let done = subst (λ (q : Pairing). Carried sense (unmet sense s n c.in-Nowhere.trials) c.number-in-Nowhere.result q c.seek.new.place a c.number-in-Nowhere.new.self) c.in-Nowhere.ensures.placed made in
     record { carried = carried sense a _ call _ is _ _ _ done; law = keeps_law sense s call _ is _ _ _ done.says }
 
 pub returns-in-Spent : goal.returns-in-Spent
-unfolding held_of
 returns-in-Spent g c =
     let sense = g.L.Label.sense in
     let n = g.N.Network.means c.args.net.now in
     let a = c.args.self.now in
     let s = held_of a in
     let call = entering n c.args.allowance in
-    let read = subst (λ (o : Option Draft). Reads sense n a.legend c.free-free.result (Ok o)) c.in-Some.is c.in_ok-draft.ensures in
-    let placed : length (full_legend sense n s.legend) ≤ s.places = omega (arith, read.1, c.free-free.ensures, labels_length a.legend, room_is a.legend, a.legend.within) in
     let o = sought_in (coded c.coded-network.result) 1 s.forms in
-    let few : length (full_legend sense n s.legend) ≤ length s.legend = omega (arith, ap length read.0.labels, all_length a.legend n c.in-Some.draft.missing read.0.noted, c.len.ensures, c.if-len-ne0.false) in
-    let searched = sought_known sense s n few ∙ ap (λ (h : Coded). sought_in h 1 s.forms) (sym c.coded-network.ensures) in
-    let settles = enter_settles sense s n c.args.allowance n.count o read.0.read placed searched in
-    let is = settles ∙ settled_spent sense s n call (full_legend sense n s.legend) o c.in-Spent.ensures.answer in
+    let is = settles g (goal.at.returns-in-Spent g c).After-coded-network ∙ settled_spent sense s n call (full_legend sense n s.legend) o c.in-Spent.ensures.answer in
     let done = quiet sense a (spent c.args.allowance) _ c.args.place.now c.seek.new.place (record { answer = refl; place = c.in-Spent.ensures.placed }) (λ bytes places. (refl, refl)) in
     record { carried = carried sense a _ call _ is _ _ _ done; law = keeps_law sense s call _ is _ _ _ done.says }

@@ -1,10 +1,10 @@
 use Rattle.std.proofs.Common.{◌≡◌, ℕ, suc, ◌-◌, ◌*◌, ◌<◌, ◌≤◌, List, [], ◌∷◌, ◌++◌, length, Ok, Err, Result, sym, refl, ap, ◌∙◌, subst, arith, length-append}
-use Rattle.std.specs.List.{range_with_len}
 use Rattle.search.specs.Coded.{Coded}
 use Rattle.search.specs.Meanings.{coded}
 use Rattle.atlas.specs.Answering.{Carried, unmet}
 use Rattle.atlas.specs.Blocks.{trimmed, block_coded, no_form, Kept}
-use Rattle.atlas.specs.Calls.{Held, After, first_loop}
+use Rattle.atlas.specs.Calls.{Held, After}
+use Rattle.atlas.specs.Drafts.{net_of}
 use Rattle.atlas.specs.Holding.{held_of, bytes_of, places_of}
 use Rattle.atlas.specs.Legends.{full_legend, coded_by}
 use Rattle.atlas.specs.Lent.{labels_of}
@@ -17,14 +17,13 @@ use Rattle.atlas.proofs.Answered.{unmatched_new, unmatched_full}
 use Rattle.atlas.proofs.Holding.{forms_length, blocks_held, last_at}
 use Rattle.atlas.proofs.KeptBlocks.{trimmed_coded, kinds_coded}
 use Rattle.atlas.proofs.LawfulCalls.{quiet}
-use Rattle.atlas.proofs.Reading.{read_ok}
 use Rattle.atlas.proofs.Atlas.number.Goals as goal
 
 pub returns-then-count-blocks : goal.returns-then-count-blocks
 unfolding unmet
 returns-then-count-blocks g c p =
     let sense = g.L.Label.sense in
-    let n = g.N.Network.means c.args.net.now in
+    let n = net_of c.args.draft.now in
     let a = c.args.self.now in
     let s = held_of a in
     let full : s.blocks ≤ length s.forms = omega (arith, c.count.ensures, c.blocks-2.ensures, c.if-count-blocks.true) in
@@ -33,26 +32,14 @@ returns-then-count-blocks g c p =
 
 pub join-requires : goal.join-requires
 unfolding held_of
-join-requires g c = omega (arith, ap length c.requires.drafted.labels, c.requires.places)
-
-pub coded-form-requires : goal.coded-form-requires
-coded-form-requires g c =
-    let sense = g.L.Label.sense in
-    let n = g.N.Network.means c.args.net.now in
-    let d = c.requires.drafted in
-    let can = (read_ok sense n n.count (sym d.read)).1 in
-    record {
-      stations = d.stations;
-      few = omega (arith, d.stations, can.few);
-      loopless = ap (λ (k : ℕ). first_loop sense n (range_with_len 0 k)) d.stations ∙ can.loopless;
-    }
+join-requires g c = omega (arith, ap length c.requires.complete, c.requires.places)
 
 pub store-requires : goal.store-requires
 unfolding held_of
 store-requires g c =
     let sense = g.L.Label.sense in
-    let n = g.N.Network.means c.args.net.now in
-    let bounds = g.N.Network.bounded c.args.net.now in
+    let n = net_of c.args.draft.now in
+    let bounds = g.N.Network.bounded c.args.draft.now.net.now in
     let a = c.args.self.now in
     let ls = labels_of c.join.new.legend in
     let is = sym c.coded-form.ensures in
@@ -69,13 +56,13 @@ pub returns : goal.returns
 unfolding held_of bytes_of places_of unmet
 returns g c p =
     let sense = g.L.Label.sense in
-    let n = g.N.Network.means c.args.net.now in
+    let n = net_of c.args.draft.now in
     let a = c.args.self.now in
     let s = held_of a in
     let b = c.store.new.self in
     let l = c.join.new.legend in
     let ls = full_legend sense n s.legend in
-    let joined : labels_of l ≡ ls = c.join.ensures.labels ∙ c.requires.drafted.labels in
+    let joined : labels_of l ≡ ls = c.join.ensures.labels ∙ c.requires.complete in
     let form : coded c.coded-form.result ≡ coded_by sense ls n = c.coded-form.ensures ∙ ap (λ (ks : List g.row.L.Denot). coded_by sense ks n) joined in
     let free : length s.forms < s.blocks = omega (arith, c.count.ensures, c.blocks-2.ensures, c.if-count-blocks.false, forms_length a, blocks_held a) in
     let next : c.count-2.result ≡ suc (length s.forms) = c.count-2.ensures ∙ ap (λ (h : Held g.row.L.Denot). length h.forms) c.store.ensures.held ∙ length-append s.forms (coded c.coded-form.result ∷ []) ∙ omega arith in

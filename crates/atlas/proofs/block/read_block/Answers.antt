@@ -1,11 +1,16 @@
-use Rattle.std.proofs.Common.{cond, replicate, Some, None, Option, refl, ap, ◌∙◌}
+use Rattle.std.proofs.Common.{◌+◌, ◌*◌, get_or, cond, Some, None, Option, rules, tests, refl, ap, ◌∙◌, arith}
 use Rattle.search.specs.Arrays.{searchable}
 use Rattle.search.specs.Coded.{Coded}
-use Rattle.atlas.proofs.InArrays.{zeros_at}
 use Rattle.atlas.proofs.InBlocks.{block_read}
+use Rattle.atlas.proofs.MadeArrays.{made_at}
 use Rattle.atlas.proofs.block.read_block.Goals as goal
 
 pub returns : goal.returns
 returns c =
-    let same = block_read c.args.bytes.now c.read_kinds.new.kinds c.read_codes.new.codes (replicate 64 0) (replicate 4096 0) c.args.k (zeros_at 64) (zeros_at 4096) c.read_kinds.ensures.kinds c.read_codes.ensures.codes _ refl in
+    let bytes = c.args.bytes.now in
+    let k = c.args.k in
+    let same =
+    block_read bytes c.from_fn-kinds.result c.copy_from_slice.new.self k _ c.requires c.from_fn-kinds.ensures.items.long
+    (λ u l. made_at _ _ (λ j. get_or bytes (4161 * k + 1 + j) 0) (λ j y q w. search (rules, tests)) c.from_fn-kinds.result 64 u 0 c.from_fn-kinds.ensures.items l)
+    (omega arith) c.copy_from_slice.ensures.after _ refl in
     c.new.ensures ∙ ap {B = Option Coded} (λ (g : Coded). cond (searchable g) (Some g) None) same

@@ -1,31 +1,13 @@
-use Rattle.std.proofs.Common.{ℕ, ◌+◌, ◌-◌, sym, ap, ◌∙◌, arith}
+use Rattle.std.proofs.Common.{is_some, rules, tests, sym, ◌∙◌, arith}
 use Rattle.std.specs.List.{range_with_len}
-use Rattle.atlas.specs.Calls.{first_loop}
-use Rattle.atlas.proofs.Loops.{loop_here, loop_later}
+use Rattle.std.proofs.lemmas.Iterator.{YieldsList-from_range}
+use Rattle.std.proofs.lemmas.Iterator.Search.{find_from_yields_List}
+use Rattle.atlas.proofs.Loops.{unmapped, loop_found}
 use Rattle.atlas.proofs.reader.lowest_loop.Goals as goal
-
-pub loop-u-init : goal.loop-u-init
-loop-u-init g c =
-    ap (λ (k : ℕ). first_loop g.N.Label.Label.sense (g.N.Network.means c.args.net.now) (range_with_len 0 k)) (omega arith)
-
-pub returns-then-is_some : goal.returns-then-is_some
-returns-then-is_some g c =
-    let u = c.loop-u.u in
-    let k = c.args.count - u in
-    sym (loop_here g.N.Label.Label.sense (g.N.Network.means c.args.net.now) u k c.leg.result (omega arith) c.leg.ensures (sym c.if-is_some.ensures))
-    ∙ c.loop-u.invariant
-
-pub loop-u-preserved : goal.loop-u-preserved
-loop-u-preserved g c =
-    let u = c.loop-u.u in
-    let k = c.args.count - u in
-    let n = g.N.Network.means c.args.net.now in
-    ap (λ (m : ℕ). first_loop g.N.Label.Label.sense n (range_with_len (u + 1) m)) (omega arith)
-    ∙ sym (loop_later g.N.Label.Label.sense n u k c.leg.result (omega arith) c.leg.ensures (sym c.if-is_some.ensures))
-    ∙ c.loop-u.invariant
 
 pub returns : goal.returns
 returns g c =
-    let u = c.loop-u.u in
-    ap (λ (m : ℕ). first_loop g.N.Label.Label.sense (g.N.Network.means c.args.net.now) (range_with_len u m)) {x = 0} {y = c.args.count - u} (omega arith)
-    ∙ c.loop-u.invariant
+    let n = g.N.Network.means c.args.net.now in
+    sym (unmapped c.find.result)
+    ∙ find_from_yields_List (λ u. is_some (n.leg u u)) _ _ c.find.result c.find.ensures.ran (YieldsList-from_range 0 c.args.count c.args.count (cc) (omega arith)) (λ u b q k. search (rules, tests))
+    ∙ loop_found g.N.Label.Label.sense n (range_with_len 0 c.args.count)

@@ -5,8 +5,8 @@ use Rattle.atlas.specs.Blocks.{no_form}
 use Rattle.atlas.proofs.InArrays.{there_is, there_some, no_arrays}
 use Rattle.atlas.proofs.seeking.no_form.Goals as goal
 
-pub unreachable-requires : goal.unreachable-requires
-unreachable-requires c = there_some coded (in_arrays 0 (replicate 64 0) (replicate 4096 0)) no_form no_arrays refl c.in-None.ensures
+pub unwrap-requires : goal.unwrap-requires
+unwrap-requires c = there_some coded (in_arrays 0 (replicate 64 0) (replicate 4096 0)) no_form no_arrays refl c.new.result c.new.ensures
 
 pub returns : goal.returns
-returns c = there_is coded (in_arrays 0 (replicate 64 0) (replicate 4096 0)) no_form no_arrays refl c.in-Some.form c.in-Some.ensures
+returns c = there_is coded (in_arrays 0 (replicate 64 0) (replicate 4096 0)) no_form no_arrays refl c.new.result c.unwrap.result c.new.ensures c.unwrap.ensures
