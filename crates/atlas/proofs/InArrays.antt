@@ -4,13 +4,13 @@ use lib.ListN.{length-replicate, get_or-replicate}
 use Rattle.std.specs.List.{range_with_len}
 use Rattle.std.specs.Option.{option_map, IsSome}
 use Rattle.std.proofs.lemmas.List.{get_or-append_right, get_or-drop, get_or_past, take_at}
-use Rattle.std.proofs.lemmas.Bool.{cases_lt}
+use Rattle.std.proofs.lemmas.Bool.{eq-eqb, cases_lt}
 use Rattle.atlas.specs.Blocks.{no_form}
 use Rattle.atlas.specs.Calls.{first_loop}
 use Rattle.atlas.specs.Legends.{code_of, coded_by}
 use Rattle.atlas.proofs.CallCases.{loops_none}
 use Rattle.atlas.proofs.Membership.{in_counting}
-use Rattle.search.proofs.Networked.{few_loopless, loopless_more}
+use Rattle.search.proofs.Networked.{few_loopless}
 use Rattle.search.specs.Arrays.{in_arrays, loopless_below, searchable}
 use Rattle.search.specs.Coded.{Coded}
 use Rattle.search.specs.Meanings.{coded}
@@ -29,8 +29,7 @@ zeros_at n i = go (cases_lt i n)
 loopless_each : (g : Coded) (n : ℕ) → ((u : ℕ) → u < n → g.code u u ≡ 0) → loopless_below g n ≡ true
 loopless_each g zero h = refl
 loopless_each g (suc n) h =
-    ap (loopless_below g) {x = suc n} {y = n + 1} (omega arith)
-    ∙ loopless_more g n (loopless_each g n (λ u l. h u (omega arith))) (h n (omega arith))
+    ap (λ (t : Bool). t && loopless_below g n) (eq-eqb (g.code n n) 0 (h n (omega arith))) ∙ loopless_each g n (λ u l. h u (omega arith))
 
 module _ {L : Type 0} (sense : L → List ℤ) (ls : List L) (n : Net L) (small : n.count ≤ 64) where
   -- a network that can be read can be searched when it is coded
