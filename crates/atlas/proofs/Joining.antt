@@ -10,17 +10,13 @@ behind_more {A} n m before after h b = (b.0, back after ∙ ap (drop (m - n)) b.
     back : (xs : List A) → drop m xs ≡ drop (m - n) (drop n xs)
     back xs = ap (λ (k : ℕ). drop k xs) {x = m} {y = n + (m - n)} (omega arith) ∙ sym (drop-drop (m - n) n xs)
 
-module _ {L : Type 0} (leg : ℕ → ℕ → Option L) (ps : List (ℕ × ℕ)) (i : ℕ) (p : ℕ × ℕ) (low : i < length ps) (at : p ≡ get_or ps i p) where
-  first : labels_on leg (drop i ps) ≡ labels_on leg (p ∷ drop (i + 1) ps)
-  first = at_drop_more (labels_on leg) ps i p low ∙ ap (λ (q : ℕ × ℕ). labels_on leg (q ∷ drop (i + 1) ps)) (sym at)
-
-  put : Option L → List L
-  put o = elim o [ None ↦ labels_on leg (drop (i + 1) ps) | Some y ↦ y ∷ labels_on leg (drop (i + 1) ps) ]
-
-  -- the labels of the legs from i on, where the leg at i is there
-  pub left_some : (x : L) → leg p.0 p.1 ≡ Some x → labels_on leg (drop i ps) ≡ x ∷ labels_on leg (drop (i + 1) ps)
-  unfolding put
-  left_some x e = first ∙ ap put e
+-- the labels of the legs from i on, where the leg at i is there
+pub left_some :
+    {L : Type 0} (leg : ℕ → ℕ → Option L) (ps : List (ℕ × ℕ)) (i : ℕ) (p : ℕ × ℕ) (x : L) → i < length ps → p ≡ get_or ps i p → leg p.0 p.1 ≡ Some x → labels_on leg (drop i ps) ≡ x ∷ labels_on leg (drop (i + 1) ps)
+left_some {L} leg ps i p x low at e =
+    at_drop_more (labels_on leg) ps i p low
+    ∙ ap (λ (q : ℕ × ℕ). labels_on leg (q ∷ drop (i + 1) ps)) (sym at)
+    ∙ ap (λ (o : Option L). elim o as (λ _. List L) [ None ↦ labels_on leg (drop (i + 1) ps) | Some y ↦ y ∷ labels_on leg (drop (i + 1) ps) ]) e
 
 -- a label finds a place, where there is one for all
 pub placed : {L : Type 0} (ls rest all : List L) (x : L) (room : ℕ) (r : Bool) → ls ++ x ∷ rest ≡ all → length all ≤ room → r ≡ ltb (length ls) room → r ≡ true

@@ -25,7 +25,7 @@ whole g c =
     let leg = (net_of c.args.self.now).leg in
     let legs = c.args.self.now.legs.items in
     let at = turn g ((goal.at.unwrap-requires g c).In-Some) in
-    let some = left_some leg legs (length c.loop-u.yielded) c.in-Some.field-0.now at.0 at.1 c.in-Some-leg.label (sym c.in-Some-leg.ensures) in
+    let some = left_some leg legs (length c.loop-u.yielded) c.in-Some.field-0.now c.in-Some-leg.label at.0 at.1 (sym c.in-Some-leg.ensures) in
     ap (λ (ys : List g.row.N-Label.Denot). labels_of c.loop-u.legend ++ ys) (sym some) ∙ c.loop-u.invariant.labels
 
 pub unwrap-requires : goal.unwrap-requires
