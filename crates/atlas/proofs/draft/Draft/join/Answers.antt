@@ -1,27 +1,16 @@
-use Rattle.std.proofs.Common.{◌≡◌, ℕ, ◌+◌, ◌<◌, List, ◌∷◌, ◌++◌, length, get_or, drop, is_ok, sym, refl, ap, ◌∙◌, arith}
+use Rattle.std.proofs.Common.{◌≡◌, ◌+◌, ◌<◌, List, ◌∷◌, ◌++◌, length, get_or, drop, is_ok, sym, refl, ap, ◌∙◌, arith}
 use Rattle.std.proofs.lemmas.Iterator.{YieldsList-from_slice}
-use Rattle.std.proofs.lemmas.Iterator.Consumers.{YieldsList-turn, YieldsList-end}
-use Rattle.std.proofs.lemmas.List.{length_push}
+use Rattle.std.proofs.lemmas.Iterator.Consumers.{YieldsList-turn}
 use Rattle.atlas.specs.Drafts.{net_of, labels_with}
 use Rattle.atlas.specs.FirstLegs.{labels_on}
 use Rattle.atlas.specs.Lent.{labels_of, room_of}
-use Rattle.atlas.proofs.Joining.{left_none, left_some, placed, joined_all}
+use Rattle.atlas.proofs.Joining.{left_some, placed}
 use Rattle.atlas.proofs.draft.Draft.join.Goals as goal
 use Rattle.atlas.proofs.draft.Draft.join.Goals.{In-Some, After-add}
 
 pub loop-u-init : goal.loop-u-init
 unfolding labels_with
 loop-u-init g c = record { can = tt; finite = tt; labels = refl; room = refl; others = (refl, refl) }
-
-pub returns : goal.returns
-returns g c =
-    let legs = c.args.self.now.legs.items in
-    let end = YieldsList-end (YieldsList-from_slice legs cc) c.loop-u.yielded _ c.loop-u.yielded_by _ _ c.in-None.is c.next.ensures.steps in
-    record {
-      labels = joined_all (net_of c.args.self.now).leg legs (length c.loop-u.yielded) (labels_of c.loop-u.legend) (labels_with c.args.self.now c.args.legend.now) (omega (arith, end.1)) c.loop-u.invariant.labels;
-      room = c.loop-u.invariant.room;
-      others = c.loop-u.invariant.others;
-    }
 
 -- this turn's leg is the next of those that were noted
 turn : (g : _) (c : In-Some g) → (length c.loop-u.yielded < length c.args.self.now.legs.items) × (c.in-Some.field-0.now ≡ get_or c.args.self.now.legs.items (length c.loop-u.yielded) c.in-Some.field-0.now)
@@ -36,24 +25,9 @@ whole g c =
     let leg = (net_of c.args.self.now).leg in
     let legs = c.args.self.now.legs.items in
     let at = turn g ((goal.at.unwrap-requires g c).In-Some) in
-    let some = left_some leg legs (length c.loop-u.yielded) c.in-Some.field-0.now at.0 at.1 c.in-Some-leg.label (sym c.in-Some-leg.ensures) in
+    let some = left_some leg legs (length c.loop-u.yielded) c.in-Some.field-0.now c.in-Some-leg.label at.0 at.1 (sym c.in-Some-leg.ensures) in
     ap (λ (ys : List g.row.N-Label.Denot). labels_of c.loop-u.legend ++ ys) (sym some) ∙ c.loop-u.invariant.labels
 
 pub unwrap-requires : goal.unwrap-requires
 unwrap-requires g c =
     placed (labels_of c.loop-u.legend) _ (labels_with c.args.self.now c.args.legend.now) c.in-Some-leg.label (room_of c.loop-u.legend) (is_ok c.add.result) (whole g c) (omega (arith, c.requires, c.loop-u.invariant.room)) c.add.ensures.place
-
-pub loop-u-preserved : goal.loop-u-preserved
-loop-u-preserved g c =
-    let at = turn g ((goal.at.loop-u-preserved g c).In-Some) in
-    let none = left_none (net_of c.args.self.now).leg c.args.self.now.legs.items (length c.loop-u.yielded) c.in-Some.field-0.now at.0 at.1 (sym c.in_default.ensures) in
-    let more = length_push c.loop-u.yielded c.in-Some.field-0 in
-    record {
-      can = tt;
-      finite = tt;
-      labels = ap (λ (k : ℕ). labels_of c.loop-u.legend ++ labels_on (net_of c.args.self.now).leg (drop k c.args.self.now.legs.items)) more
-          ∙ ap (λ ys. labels_of c.loop-u.legend ++ ys) (sym none)
-          ∙ c.loop-u.invariant.labels;
-      room = c.loop-u.invariant.room;
-      others = c.loop-u.invariant.others;
-    }
