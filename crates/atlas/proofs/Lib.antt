@@ -11,7 +11,6 @@ pub mod NotingLegs
 pub mod Joining
 pub mod Drafting
 -- coding a network
-pub mod MadeArrays
 pub mod InArrays
 -- blocks of lent bytes
 pub mod InBlocks

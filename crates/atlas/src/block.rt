@@ -29,7 +29,7 @@ pub(crate) fn read_block(bytes: &[u8], k: usize) -> Option<CodedNetwork>
     CodedNetwork::new(bytes[at] as usize, &kinds, &codes)
 }
 
-// The kind of a station as a byte, 0 where there is no such station.
+// The kind of a station as a byte, 0 where there is no such station: a block is zero past its stations.
 fn kind_byte(form: &CodedNetwork, u: usize) -> u8
     requires { u < (coded form.now).count → (coded form.now).kind u < 256 }
     ensures { result ≡ (trimmed (coded form.now)).kind u }
@@ -37,7 +37,7 @@ fn kind_byte(form: &CodedNetwork, u: usize) -> u8
     form.kind(u).unwrap_or(0) as u8
 }
 
-// The code of the pair numbered i, 0 where there are no such stations.
+// The code of the pair numbered i, 0 where there are no such stations, as above.
 fn code_byte(form: &CodedNetwork, i: usize) -> u8
     ensures { result ≡ code_in_order (trimmed (coded form.now)) i }
 {

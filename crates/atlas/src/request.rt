@@ -3,7 +3,7 @@ use crate::answer::Answer;
 use survey::pairing::Pairing;
 use survey::refusal::Refusal;
 
-// To number a network, or only to look for it.
+// To number a network, or only to look for it. An enum and no closure, since a request is kept as a value.
 #[derive(Clone, Copy, PartialEq, Eq, Debug)]
 pub enum Ask {
     Enter,

@@ -15,7 +15,7 @@ use survey::label::Label;
 use survey::pairing::Pairing;
 
 // What a search through the forms ends with: the first form with a map, or none, and the trials; or more trials are
-// needed than are allowed.
+// needed than are allowed. None of the three is a failure, and so it is neither an Option nor a Result.
 #[derive(Clone, Copy)]
 pub(crate) enum Sought {
     Found { form: u8, trials: u32 },

@@ -60,7 +60,8 @@ impl<N: Network> Without<N> {
         Without { below, mask }
     }
 
-    // What the number of a station is in the network below, or its count where there is no such station.
+    // What the number of a station is in the network below, or its count where there is no such station: a rule of
+    // the layer, by which such a station has neither kind nor legs.
     pub fn old_station(&self, station: u16) -> u16
         ensures { result ≡ old_station self.now.mask (N.Network.means self.now.below).count station }
     {

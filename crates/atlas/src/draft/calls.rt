@@ -97,6 +97,7 @@ impl<'a, N: Network> Draft<'a, N> {
         ensures net { net_of self.new ≡ net_of self.old }
         ensures most { self.new.most ≡ self.old.most }
     {
+        // By number: a network is asked for its legs, and has no list of them.
         for v in 0..self.stations {
             self.note(legend, u, v)?;
         }
@@ -113,6 +114,7 @@ impl<'a, N: Network> Draft<'a, N> {
         ensures net { net_of self.new ≡ net_of self.old }
         ensures most { self.new.most ≡ self.old.most }
     {
+        // By number, as the legs of a row.
         for u in 0..self.stations {
             self.note_row(legend, u)?;
         }

@@ -14,7 +14,7 @@ use survey::label::Label;
 use survey::network::Network;
 
 impl<'a, N: Network> Draft<'a, N> {
-    // The kind of a station, 0 where there is no such station.
+    // The kind of a station, 0 where there is no such station, as of every network.
     fn kind(&self, u: usize) -> u16
         ensures { result ≡ (net_of self.now).kind u }
     {

@@ -2,7 +2,7 @@ use Rattle.std.proofs.Common.{◌+◌, ◌*◌, get_or, cond, Some, None, Option
 use Rattle.search.specs.Arrays.{searchable}
 use Rattle.search.specs.Coded.{Coded}
 use Rattle.atlas.proofs.InBlocks.{block_read}
-use Rattle.atlas.proofs.MadeArrays.{made_at}
+use Rattle.search.proofs.Made.{made_at}
 use Rattle.atlas.proofs.block.read_block.Goals as goal
 
 pub returns : goal.returns

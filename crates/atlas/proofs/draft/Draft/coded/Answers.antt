@@ -6,7 +6,7 @@ use Rattle.atlas.specs.declared.draft.Draft.{Draft}
 use Rattle.atlas.specs.Legends.{coded_by}
 use Rattle.atlas.specs.Lent.{labels_of}
 use Rattle.atlas.proofs.InArrays.{rows_wide, rows_length, rows_hold, arrays_coded, coded_searchable, there_is, there_some}
-use Rattle.atlas.proofs.MadeArrays.{made_at}
+use Rattle.search.proofs.Made.{made_at}
 use Rattle.atlas.proofs.Reading.{read_ok}
 use Rattle.atlas.proofs.draft.Draft.coded.Goals as goal
 use Rattle.atlas.proofs.draft.Draft.coded.Goals.{After-new}
