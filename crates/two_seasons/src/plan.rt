@@ -15,7 +15,8 @@ use atlas::request::Ask;
 use std::alloc::Global;
 use std::str::FromStr;
 
-// How the network of a call is read from a notebook.
+// How the network of a call is read from a notebook. An enum and no closure, since each layer makes a network of another
+// type.
 #[derive(Clone, Copy)]
 pub enum Layer {
     AsRead,
