@@ -27,11 +27,11 @@ pub struct GradeSheet {
 
 // The grades of so many stations, as a table has them: a row ends where the table has no more place.
 fn table_of(count: usize, grades: &[u8]) -> Option<[u8; TABLE]> {
-    if grades.len() != count.checked_mul(count)? {
-        return None;
-    }
+    let width = count.min(ROW);
     let mut table = [0; TABLE];
-    for (row, grades) in table.chunks_mut(ROW).zip(grades.chunks(count.max(1))) {
+    for (u, row) in table.chunks_mut(ROW).enumerate().take(count) {
+        let from = count.checked_mul(u)?;
+        let grades = grades.get(from..from.checked_add(width)?)?;
         for (place, grade) in row.iter_mut().zip(grades) {
             *place = *grade;
         }

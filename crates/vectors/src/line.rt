@@ -23,20 +23,21 @@ pub enum Task {
 #[error("a line of the task file cannot be read")]
 pub struct Fault;
 
-fn read_kinds(count: usize, text: &str) -> Option<[u16; MOST_STATIONS]> {
+fn read_kinds(count: usize, text: &[u8]) -> Option<[u16; MOST_STATIONS]> {
     let mut kinds = [0; MOST_STATIONS];
-    decode_to_slice(text, kinds.get_mut(..count)?).ok()?;
+    let digits = text.get(..count.checked_mul(2)?)?;
+    decode_to_slice(digits, kinds.get_mut(..count)?).ok()?;
     Some(kinds.map(u16::from))
 }
 
-fn read_codes(count: usize, text: &str) -> Option<[u8; MOST_CODES]> {
+fn read_codes(count: usize, text: &[u8]) -> Option<[u8; MOST_CODES]> {
     let width = count.checked_mul(2)?;
-    if text.len() != width.checked_mul(count)? {
-        return None;
-    }
+    let digits = text.get(..width.checked_mul(count)?)?;
     let mut codes = [0; MOST_CODES];
-    let rows = text.as_bytes().chunks(width.max(1));
-    for (row, digits) in codes.chunks_mut(MOST_STATIONS).zip(rows) {
+    for (row, digits) in codes
+        .chunks_mut(MOST_STATIONS)
+        .zip(digits.chunks(width.max(1)))
+    {
         decode_to_slice(digits, row.get_mut(..count)?).ok()?;
     }
     Some(codes)
@@ -44,8 +45,8 @@ fn read_codes(count: usize, text: &str) -> Option<[u8; MOST_CODES]> {
 
 fn read_network(words: &mut SplitWhitespace<'_>) -> Option<CodedNetwork> {
     let count = words.next()?.parse::<usize>().ok()?;
-    let kinds = read_kinds(count, words.next()?)?;
-    let codes = read_codes(count, words.next()?)?;
+    let kinds = read_kinds(count, words.next()?.as_bytes())?;
+    let codes = read_codes(count, words.next()?.as_bytes())?;
     CodedNetwork::new(count, &kinds, &codes)
 }
 
