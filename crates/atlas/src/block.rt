@@ -55,7 +55,8 @@ pub(crate) fn fill<F: Fn(usize) -> u8>(bytes: &mut [u8], value: F)
     }
 }
 
-// Writes a form into block k, and changes no other byte. The kinds of its stations are bytes.
+// Writes a form into block k, and changes no other byte. The kinds of its stations are bytes: so they are of each network
+// that is read, while a coded network has room for more.
 pub(crate) fn write_block(bytes: &mut [u8], k: usize, form: &CodedNetwork)
     requires block { 4161 * k + 4161 ≤ length bytes.old }
     requires kinds { (u : ℕ) → u < (coded form.now).count → (coded form.now).kind u < 256 }

@@ -13,7 +13,7 @@ mod coding;
 
 // A network that can be read, how many stations it has, and a leg for each sense that a legend lacks: the first that
 // has it, as the stations that it leads between. Legs are kept and not labels, since nothing bounds how large a label
-// is. At most so many are noted.
+// is. At most `most` of them are noted.
 #[derive(Drop)]
 pub(crate) struct Draft<'a, N: Network> {
     net: &'a N,

@@ -4,7 +4,7 @@ ghost use Rattle.survey.specs.Eithers.{either_means, either_bounded};
 use crate::network::Network;
 
 // A network of one source or of another that carries the same kind of label. It is no failure beside a success, and so no
-// `Result`; the library's type of this name would take the same impl.
+// `Result`; with the library's type of this name the same three questions would be passed on, by a macro.
 #[derive(Drop)]
 pub enum Either<A, B> {
     Left(A),

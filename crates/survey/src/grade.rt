@@ -8,7 +8,7 @@ use crate::refusal::Refusal;
 use std::fmt;
 
 // A grade from 1 to 255. The type is plain, since grades lie in lent memory: a value of 0 counts as 1.
-#[derive(Clone, Copy, PartialEq, Eq, Debug)]
+#[derive(Clone, Copy, PartialEq, Eq, Debug, Default)]
 pub struct Grade {
     pub value: u8,
 }

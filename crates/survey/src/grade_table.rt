@@ -18,6 +18,9 @@ impl<'a> GradeTable<'a> {
     // How far the row of a station is from that of the next, and so how many stations can have legs.
     pub const ROW: u16 = 64;
 
+    // How many bytes a whole table has.
+    pub const BYTES: usize = 4_096;
+
     // The network of these kinds and grades.
     pub fn new(kinds: &'a [u8], bytes: &'a [u8]) -> GradeTable<'a>
         ensures { table_means result.kinds.now result.bytes.now ≡ table_means kinds.now bytes.now }

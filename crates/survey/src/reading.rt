@@ -8,7 +8,7 @@ use crate::refusal::Refusal;
 use std::fmt;
 
 // A reading. The type is plain, since readings lie in lent memory: a number beyond its range counts as the nearer end of it.
-#[derive(Clone, Copy, PartialEq, Eq, Debug)]
+#[derive(Clone, Copy, PartialEq, Eq, Debug, Default)]
 pub struct Reading {
     // centimetres of tape
     pub length: u32,

@@ -14,9 +14,8 @@ pub struct Without<N> {
 // Stations from here on have no bit.
 const BITS: u16 = 64;
 
-// The mask stays a number beside the station's: it is no more than the field of the layer, and the definitions name it so.
-
-// Whether the bit of a station is set.
+// Whether the bit of a station is set. The mask stays a number beside the station's, here and below: the layer has it as a
+// number, and a type around it would hold nothing else.
 fn is_out(mask: u64, station: u16) -> bool
     requires { station < 64 }
     ensures { result ≡ taken_out mask station }
@@ -40,7 +39,8 @@ fn ones_below(mask: u64, station: u16) -> u16
 fn old_number(mask: u64, count: u16, station: u16) -> u16
     ensures { result ≡ old_station mask count station }
 {
-    // The numbers themselves are tried, and no list is gone through.
+    // By a loop over numbers: the bit asks for one below 64 and the difference for one that is not negative, which the loop
+    // knows and the closure of a chain would have to be told.
     for old in 0..count.min(BITS) {
         if !is_out(mask, old) && old - ones_below(mask, old) == station {
             return old;

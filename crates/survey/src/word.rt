@@ -2,7 +2,7 @@ ghost use Rattle.std.specs.Prelude.{◌≡◌, ℕ, ◌<◌, Some, None, ◌≢�
 ghost use Rattle.survey.specs.Words.{word_of};
 
 // The word of a kind of stations. A kind is a byte and no enum: a rule of the subject, in which each of 256 is a kind, and
-// eight of them have words.
+// eight of them have words. They stand in two matches, each proved case by case; a list of words would be searched.
 pub fn word(kind: u8) -> &'static str
     ensures { result.now ≡ word_of kind }
 {

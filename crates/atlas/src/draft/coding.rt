@@ -14,7 +14,7 @@ use survey::label::Label;
 use survey::network::Network;
 
 impl<'a, N: Network> Draft<'a, N> {
-    // The kind of a station, 0 where there is no such station, as of every network.
+    // The kind of a station, 0 where there is no such station, as of every network; one of its own stations is a `u16`.
     fn kind(&self, u: usize) -> u16
         ensures { result ≡ (net_of self.now).kind u }
     {
@@ -48,6 +48,7 @@ impl<'a, N: Network> Draft<'a, N> {
             ≡ coded_by N.Label.Label.sense (labels_of legend.now) (net_of self.now) }
     {
         let kinds = array::from_fn(|u| self.kind(u));
+        // tried: `from_fn` over all pairs, as for the kinds; whole seasons of calls took a quarter more time.
         let mut codes = [0; MOST_CODES];
         let rows = &mut codes[..MOST_STATIONS * self.stations as usize];
         fill(rows, |i| self.code(legend, i));

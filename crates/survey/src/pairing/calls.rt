@@ -10,8 +10,8 @@ use crate::pairing::{MOST, Pairing};
 use crate::refusal::Refusal;
 use std::array;
 
-// Stands for the source of a station that has none yet: more than any station. A list of options in its place would have
-// to be turned into the bytes of the pairing at the end, by one more loop.
+// Stands for the source of a station that has none yet: more than any station. Options in its place would be unwrapped one
+// by one into the bytes of the pairing at the end.
 const FREE: u8 = u8::MAX;
 
 // Each station by its own number.
