@@ -13,22 +13,19 @@ use survey::grade::Grade;
 use survey::grade_table::GradeTable;
 use survey::refusal::Refusal;
 
-// The bytes of a table.
-const TABLE: usize = 4_096;
-
 // The stations that a row of a table has bytes for.
 const ROW: usize = GradeTable::ROW as usize;
 
 #[derive(Drop)]
 pub struct GradeSheet {
     kinds: Vec<u8>,
-    table: [u8; TABLE],
+    table: [u8; GradeTable::BYTES],
 }
 
 // The grades of so many stations, as a table has them: a row ends where the table has no more place.
-fn table_of(count: usize, grades: &[u8]) -> Option<[u8; TABLE]> {
+fn table_of(count: usize, grades: &[u8]) -> Option<[u8; GradeTable::BYTES]> {
     let width = count.min(ROW);
-    let mut table = [0; TABLE];
+    let mut table = [0; GradeTable::BYTES];
     for (u, row) in table.chunks_mut(ROW).enumerate().take(count) {
         let from = count.checked_mul(u)?;
         let grades = grades.get(from..from.checked_add(width)?)?;
@@ -41,8 +38,6 @@ fn table_of(count: usize, grades: &[u8]) -> Option<[u8; TABLE]> {
 
 impl Sheet for GradeSheet {
     type Label = Grade;
-
-    const BLANK: Grade = Grade { value: 1 };
 
     fn read(heap: Global, mut words: Words<'_>) -> Result<GradeSheet, Fault> {
         let count = words.number::<usize>()?;

@@ -123,12 +123,6 @@ fn read_legs(heap: Global, words: Words<'_>) -> Result<Vec<Leg<Reading>>, Fault>
 impl Sheet for ReadingSheet {
     type Label = Reading;
 
-    const BLANK: Reading = Reading {
-        length: 0,
-        bearing: 0,
-        gradient: 0,
-    };
-
     fn read(heap: Global, mut words: Words<'_>) -> Result<ReadingSheet, Fault> {
         let layers = Layers::read(words.word()?).ok_or_else(|| words.fault())?;
         let kinds = words.bytes(heap)?;

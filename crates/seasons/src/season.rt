@@ -24,10 +24,8 @@ use survey::refusal::Refusal;
 
 // A network as the lines of a season write it.
 pub trait Sheet: Drop {
-    type Label: Label + Clone;
-
-    // What a label place holds before the atlas writes to it.
-    const BLANK: Self::Label;
+    // Its default is what a label place holds before the atlas writes to it.
+    type Label: Label + Clone + Default;
 
     // Reads the sheet from the rest of a line.
     fn read(heap: Global, words: Words<'_>) -> Result<Self, Fault>;
@@ -175,7 +173,7 @@ pub fn replay<S: Sheet>(rt: &HostRuntime, name: &str) -> anyhow::Result<()> {
     };
     let lent = Lent::read(opening)?;
     let mut bytes: Vec<u8> = vec![in heap; 0; lent.blocks as usize * BLOCK]?;
-    let mut places = vec![in heap; S::BLANK; lent.places as usize]?;
+    let mut places = vec![in heap; S::Label::default(); lent.places as usize]?;
     let mut atlas = Atlas::open(&mut bytes, &mut places);
     for (at, line) in calls.lines().enumerate() {
         let call = Call::<S>::read(heap, Words::of(at.saturating_add(2), line))?;

@@ -67,7 +67,7 @@ fn run<L: Written + Clone + Drop, N: Network<Label = L>>(
 ) -> anyhow::Result<()> {
     let heap = rt.alloc();
     let mut bytes: Vec<u8> = vec![in heap; 0; lent.blocks.saturating_mul(BLOCK)]?;
-    let mut places = vec![in heap; L::BLANK; lent.places]?;
+    let mut places = vec![in heap; L::default(); lent.places]?;
     let Lent {
         blocks,
         places: room,

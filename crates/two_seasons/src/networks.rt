@@ -44,12 +44,9 @@ pub fn graded<'a>(book: &'a Notebook<Grade>, table: &'a [u8], layer: Layer) -> G
     }
 }
 
-// How many grades a table has: 64 for each of 64 stations.
-const GRADES: usize = 4096;
-
 // The table of a notebook's grades. The first leg between two stations counts, as in a leg list.
 pub fn table(heap: Global, book: &Notebook<Grade>) -> Result<Vec<u8>, Mistake> {
-    let mut bytes: Vec<u8> = vec![in heap; 0; GRADES]?;
+    let mut bytes: Vec<u8> = vec![in heap; 0; GradeTable::BYTES]?;
     for leg in book.legs() {
         if leg.from < GradeTable::ROW && leg.to < GradeTable::ROW {
             let place = GradeTable::ROW as usize * leg.from as usize + leg.to as usize;

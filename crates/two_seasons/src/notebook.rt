@@ -13,12 +13,23 @@ pub struct Notebook<L> {
     legs: Vec<Leg<L>>,
 }
 
-// Another numbering of so many stations: station u becomes step * u + shift, counted around.
-fn renumbered(u: u16, count: u16, step: u32, shift: u32) -> u16 {
-    let moved = u32::from(u).wrapping_mul(step).wrapping_add(shift);
-    match moved.checked_rem(u32::from(count)) {
-        Some(v) => u16::try_from(v).unwrap_or(0),
-        None => u,
+// Another numbering of stations: station u becomes step * u + shift, counted around.
+#[derive(Clone, Copy)]
+pub struct Numbering {
+    pub step: u32,
+    pub shift: u32,
+}
+
+impl Numbering {
+    // The new number of a station, of so many.
+    fn of(self, u: u16, count: u16) -> u16 {
+        let moved = u32::from(u)
+            .wrapping_mul(self.step)
+            .wrapping_add(self.shift);
+        match moved.checked_rem(u32::from(count)) {
+            Some(v) => u16::try_from(v).unwrap_or(0),
+            None => u,
+        }
     }
 }
 
@@ -59,19 +70,19 @@ impl<L: Written + Drop> Notebook<L> {
 
     // The same series as another party wrote it down: with other station numbers, and each second leg read from its
     // far end.
-    pub fn copied(&self, heap: Global, step: u32, shift: u32) -> Result<Notebook<L>, Wrong> {
+    pub fn copied(&self, heap: Global, numbering: Numbering) -> Result<Notebook<L>, Wrong> {
         let count = self.count();
         let mut kinds: Vec<u8> = vec![in heap; 0; self.kinds.len()]?;
         for (u, kind) in self.kinds.iter().enumerate() {
             let u = u16::try_from(u).unwrap_or(0);
-            if let Some(place) = kinds.get_mut(renumbered(u, count, step, shift) as usize) {
+            if let Some(place) = kinds.get_mut(numbering.of(u, count) as usize) {
                 *place = *kind;
             }
         }
         let mut legs = Vec::new(heap);
         for (i, leg) in self.legs.iter().enumerate() {
-            let from = renumbered(leg.from, count, step, shift);
-            let to = renumbered(leg.to, count, step, shift);
+            let from = numbering.of(leg.from, count);
+            let to = numbering.of(leg.to, count);
             let label = leg.label;
             legs.push(if i % 2 == 0 {
                 Leg { from, to, label }

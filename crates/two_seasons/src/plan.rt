@@ -9,7 +9,7 @@
 //     enter LAYER NAME ALLOWANCE      a call; the layer is as-read, both-ways, turned, table (of grades), or without-U:
 //     find LAYER NAME ALLOWANCE       both ways and without station U
 use crate::mistake::{Mistake, Wrong};
-use crate::notebook::Notebook;
+use crate::notebook::{Notebook, Numbering};
 use crate::written::{Written, number};
 use atlas::request::Ask;
 use std::alloc::Global;
@@ -90,7 +90,11 @@ impl<L: Written + Drop> Plan<L> {
             ["book", name] => self.add_book(heap, name, Notebook::new(heap)),
             ["copy", name, of, step, shift] => {
                 let of = self.book_named(of)?;
-                self.add_copy(heap, name, of, number(step)?, number(shift)?)
+                let numbering = Numbering {
+                    step: number(step)?,
+                    shift: number(shift)?,
+                };
+                self.add_copy(heap, name, of, numbering)
             }
             ["enter", word, name, allowance] => {
                 let call = self.call(Ask::Enter, word, name, allowance)?;
@@ -116,7 +120,7 @@ impl<L: Written + Drop> Plan<L> {
     }
 
     fn add_book(&mut self, heap: Global, name: &str, book: Notebook<L>) -> Result<(), Wrong> {
-        self.names.push(format!(in heap; "{name}")?)?;
+        self.names.push(String::from_str(heap, name)?)?;
         self.books.push(book)?;
         Ok(())
     }
@@ -126,11 +130,10 @@ impl<L: Written + Drop> Plan<L> {
         heap: Global,
         name: &str,
         of: usize,
-        step: u32,
-        shift: u32,
+        numbering: Numbering,
     ) -> Result<(), Wrong> {
         let copy = match self.books.get(of) {
-            Some(book) => book.copied(heap, step, shift)?,
+            Some(book) => book.copied(heap, numbering)?,
             None => Notebook::new(heap),
         };
         self.add_book(heap, name, copy)
@@ -146,7 +149,7 @@ impl<L: Written + Drop> Plan<L> {
     }
 
     fn add_call(&mut self, heap: Global, text: &str, asked: Asked) -> Result<(), Wrong> {
-        let text = format!(in heap; "{text}")?;
+        let text = String::from_str(heap, text)?;
         self.calls.push(Call { text, asked })?;
         Ok(())
     }

@@ -2,6 +2,7 @@
 use crate::plan::Call;
 use atlas::Atlas;
 use atlas::answer::Answer;
+use atlas::reader::MOST_STATIONS;
 use atlas::request::Request;
 use std::io;
 use survey::label::Label;
@@ -10,7 +11,7 @@ use survey::pairing::Pairing;
 use survey::refusal::Refusal;
 
 // How many calls were answered in each way.
-#[derive(Clone, Copy)]
+#[derive(Clone, Copy, Default)]
 struct Tally {
     new: u32,
     known: u32,
@@ -63,13 +64,7 @@ pub fn calls<N: Network>(
     calls: &[Call],
     requests: &[Request<N>],
 ) -> io::Result<()> {
-    let mut tally = Tally {
-        new: 0,
-        known: 0,
-        unknown: 0,
-        spent: 0,
-        refused: 0,
-    };
+    let mut tally = Tally::default();
     for (call, request) in calls.iter().zip(requests) {
         let text = call.text.as_str();
         print!(rt; "  {text}: ")?;
@@ -108,13 +103,14 @@ fn class(rt: &HostRuntime, bits: u64, station: u16) -> io::Result<()> {
 
 // Prints for each form the classes of stations that cannot be told apart.
 pub fn forms<L: Label>(rt: &HostRuntime, atlas: &Atlas<'_, L>) -> io::Result<()> {
-    // Forms and stations are asked for by their numbers, up to the first that is refused: an atlas lends no list of them.
-    for form in 1..=200u8 {
+    // Forms and stations are asked for by their numbers, since an atlas lends no list of them: forms up to the first that is
+    // refused, and of each all stations that it may have.
+    for form in 1..=u8::MAX {
         if atlas.classes(form, 0).is_err() {
             return Ok(());
         }
         print!(rt; "  form {form}, like stations:")?;
-        for station in 0..64u16 {
+        for station in 0..MOST_STATIONS {
             if let Ok(bits) = atlas.classes(form, station) {
                 class(rt, bits, station)?;
             }

@@ -15,16 +15,12 @@ where
 }
 
 // A kind of label that can be read from words.
-pub trait Written: Label {
-    // What fills label places that no label has joined yet.
-    const BLANK: Self;
-
+// Its default fills label places that no label has joined yet.
+pub trait Written: Label + Default {
     fn read(words: &[&str]) -> Result<Self, Wrong>;
 }
 
 impl Written for Grade {
-    const BLANK: Grade = Grade { value: 0 };
-
     fn read(words: &[&str]) -> Result<Grade, Wrong> {
         let [value] = words else {
             return Err(Wrong::NotALine);
@@ -34,12 +30,6 @@ impl Written for Grade {
 }
 
 impl Written for Reading {
-    const BLANK: Reading = Reading {
-        length: 0,
-        bearing: 0,
-        gradient: 0,
-    };
-
     // Length in centimetres, bearing and gradient in tenths of a degree.
     fn read(words: &[&str]) -> Result<Reading, Wrong> {
         let [length, bearing, gradient] = words else {
