@@ -82,16 +82,17 @@ fn run<L: Written + Clone + Drop, N: Network<Label = L>>(
 fn grades(rt: &HostRuntime) -> anyhow::Result<()> {
     let heap = rt.alloc();
     let plan: Plan<Grade> = Plan::read(heap, texts::GRADES)?;
+    // The tables lie beside the notebooks in their order, since only a season of grades has them.
     let mut tables = Vec::new(heap);
     for book in plan.books() {
-        tables.push(table(heap, book)?)?;
+        tables.push(table(heap, &book.notebook)?)?;
     }
     let mut requests = Vec::new(heap);
     for call in plan.calls() {
         let asked = call.asked;
         if let Some(book) = plan.books().get(asked.book) {
             if let Some(table) = tables.get(asked.book) {
-                let network = graded(book, table, asked.layer);
+                let network = graded(&book.notebook, table, asked.layer);
                 add(&mut requests, asked, network)?;
             }
         }
@@ -107,7 +108,7 @@ fn readings(rt: &HostRuntime) -> anyhow::Result<()> {
     for call in plan.calls() {
         let asked = call.asked;
         if let Some(book) = plan.books().get(asked.book) {
-            add(&mut requests, asked, listed(book, asked.layer))?;
+            add(&mut requests, asked, listed(&book.notebook, asked.layer))?;
         }
     }
     println!(rt; "Readings")?;

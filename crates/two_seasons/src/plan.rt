@@ -42,10 +42,16 @@ pub struct Call {
     pub asked: Asked,
 }
 
+// A notebook under its name.
+#[derive(Drop)]
+pub struct Book<L> {
+    name: String,
+    pub notebook: Notebook<L>,
+}
+
 #[derive(Drop)]
 pub struct Plan<L> {
-    names: Vec<String>,
-    books: Vec<Notebook<L>>,
+    books: Vec<Book<L>>,
     calls: Vec<Call>,
 }
 
@@ -72,7 +78,6 @@ impl<L: Written + Drop> Plan<L> {
     // Reads the text of a season.
     pub fn read(heap: Global, text: &str) -> Result<Plan<L>, Mistake> {
         let mut plan = Plan {
-            names: Vec::new(heap),
             books: Vec::new(heap),
             calls: Vec::new(heap),
         };
@@ -110,7 +115,7 @@ impl<L: Written + Drop> Plan<L> {
 
     // A line of the notebook that was begun last.
     fn add_to_book(&mut self, words: &[&str]) -> Result<(), Wrong> {
-        let book = self.books.last_mut().ok_or(Wrong::NotALine)?;
+        let book = &mut self.books.last_mut().ok_or(Wrong::NotALine)?.notebook;
         match words {
             ["station", kind] => book.add_station(kind),
             ["plain", count] => book.add_plain(number(count)?),
@@ -119,9 +124,9 @@ impl<L: Written + Drop> Plan<L> {
         }
     }
 
-    fn add_book(&mut self, heap: Global, name: &str, book: Notebook<L>) -> Result<(), Wrong> {
-        self.names.push(String::from_str(heap, name)?)?;
-        self.books.push(book)?;
+    fn add_book(&mut self, heap: Global, name: &str, notebook: Notebook<L>) -> Result<(), Wrong> {
+        let name = String::from_str(heap, name)?;
+        self.books.push(Book { name, notebook })?;
         Ok(())
     }
 
@@ -133,7 +138,7 @@ impl<L: Written + Drop> Plan<L> {
         numbering: Numbering,
     ) -> Result<(), Wrong> {
         let copy = match self.books.get(of) {
-            Some(book) => book.copied(heap, numbering)?,
+            Some(book) => book.notebook.copied(heap, numbering)?,
             None => Notebook::new(heap),
         };
         self.add_book(heap, name, copy)
@@ -155,13 +160,13 @@ impl<L: Written + Drop> Plan<L> {
     }
 
     fn book_named(&self, name: &str) -> Result<usize, Wrong> {
-        self.names
+        self.books
             .iter()
-            .position(|known| known.as_str() == name)
+            .position(|book| book.name.as_str() == name)
             .ok_or(Wrong::NoSuchBook)
     }
 
-    pub fn books(&self) -> &[Notebook<L>] {
+    pub fn books(&self) -> &[Book<L>] {
         &self.books
     }
 
