@@ -40,7 +40,7 @@ impl Sheet for GradeSheet {
     type Label = Grade;
 
     fn read(heap: Global, mut words: Words<'_>) -> Result<GradeSheet, Fault> {
-        let count = words.number::<usize>()?;
+        let count = words.parse::<usize>()?;
         let kinds = words.bytes(heap)?;
         let grades = words.bytes(heap)?;
         let table = table_of(count, &grades).ok_or_else(|| words.fault())?;

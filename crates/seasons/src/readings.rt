@@ -10,6 +10,7 @@ use crate::season::{Question, Sheet};
 use crate::words::{Words, parsed};
 use atlas::answer::Answer;
 use std::alloc::Global;
+use std::str::FromStr;
 use survey::both_ways::BothWays;
 use survey::leg_list::{Leg, LegList};
 use survey::network::Network;
@@ -25,14 +26,21 @@ enum Layer {
     Without { mask: u64 },
 }
 
-impl Layer {
-    fn read(text: &str) -> Option<Layer> {
+// A text that names no layers.
+#[derive(Clone, Copy)]
+struct NoLayers;
+
+impl FromStr for Layer {
+    type Err = NoLayers;
+
+    fn from_str(text: &str) -> Result<Layer, NoLayers> {
         match text {
-            "turned" => Some(Layer::Turned),
-            "both" => Some(Layer::BothWays),
-            _ => Some(Layer::Without {
-                mask: parsed(text.strip_prefix("without="))?,
-            }),
+            "turned" => Ok(Layer::Turned),
+            "both" => Ok(Layer::BothWays),
+            _ => {
+                let mask = parsed(text.strip_prefix("without=")).ok_or(NoLayers)?;
+                Ok(Layer::Without { mask })
+            }
         }
     }
 }
@@ -46,16 +54,18 @@ enum Layers {
     Two { lower: Layer, upper: Layer },
 }
 
-impl Layers {
-    fn read(text: &str) -> Option<Layers> {
+impl FromStr for Layers {
+    type Err = NoLayers;
+
+    fn from_str(text: &str) -> Result<Layers, NoLayers> {
         if text == "-" {
-            return Some(Layers::None);
+            return Ok(Layers::None);
         }
         match text.split_once(',') {
-            None => Some(Layers::One(Layer::read(text)?)),
-            Some((lower, upper)) => Some(Layers::Two {
-                lower: Layer::read(lower)?,
-                upper: Layer::read(upper)?,
+            None => Ok(Layers::One(text.parse()?)),
+            Some((lower, upper)) => Ok(Layers::Two {
+                lower: lower.parse()?,
+                upper: upper.parse()?,
             }),
         }
     }
@@ -124,7 +134,7 @@ impl Sheet for ReadingSheet {
     type Label = Reading;
 
     fn read(heap: Global, mut words: Words<'_>) -> Result<ReadingSheet, Fault> {
-        let layers = Layers::read(words.word()?).ok_or_else(|| words.fault())?;
+        let layers = words.parse::<Layers>()?;
         let kinds = words.bytes(heap)?;
         let legs = read_legs(heap, words)?;
         Ok(ReadingSheet {

@@ -72,8 +72,8 @@ impl<S: Sheet> Call<S> {
             "enter" => Self::read_put(heap, Ask::Enter, words),
             "find" => Self::read_put(heap, Ask::Find, words),
             "classes" => Ok(Call::Classes {
-                form: words.number()?,
-                station: words.number()?,
+                form: words.parse()?,
+                station: words.parse()?,
             }),
             _ => Err(words.fault()),
         }
@@ -82,7 +82,7 @@ impl<S: Sheet> Call<S> {
     fn read_put(heap: Global, ask: Ask, mut words: Words<'_>) -> Result<Call<S>, Fault> {
         Ok(Call::Put {
             ask,
-            allowance: words.number()?,
+            allowance: words.parse()?,
             sheet: S::read(heap, words)?,
         })
     }
@@ -102,8 +102,8 @@ impl Lent {
             return Err(words.fault());
         }
         Ok(Lent {
-            blocks: words.number()?,
-            places: words.number()?,
+            blocks: words.parse()?,
+            places: words.parse()?,
         })
     }
 }

@@ -45,7 +45,8 @@ impl<'a> Words<'a> {
         self.words.next().ok_or_else(|| self.fault())
     }
 
-    pub fn number<F: FromStr>(&mut self) -> Result<F, Fault>
+    // What the next word stands for.
+    pub fn parse<F: FromStr>(&mut self) -> Result<F, Fault>
     where
         <F as FromStr>::Err: Drop,
     {
