@@ -44,7 +44,7 @@ pub struct Question<'a, 'b, L> {
 }
 
 impl<'a, 'b, L: Label> Question<'a, 'b, L> {
-    // Puts a network to the atlas.
+    // Puts a network to the atlas, as the atlas itself does for a list of requests, all with networks of one type.
     pub fn put<N: Network<Label = L>>(self, net: &N) -> Result<Answer, Refusal> {
         let Question {
             ask,

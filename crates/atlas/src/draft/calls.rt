@@ -63,6 +63,7 @@ impl<'a, N: Network> Draft<'a, N> {
         self.legs.iter().any(|&(u, v)| self.leads(u, v, label))
     }
 
+    // Here and in the two functions below it is said what of a draft stays: it is lent whole to be noted in.
     // Notes a leg where neither the legend nor the noted legs have its label's sense, if there is a place for it.
     fn note(&mut self, legend: &Legend<'_, N::Label>, u: u16, v: u16) -> Result<(), NoPlace>
         ensures fits { is_ok result
