@@ -33,8 +33,7 @@ turn :
     (sought_in (coded c.args.network.now) (c.loop-k.k + 1 + 1) (map (form_in (bytes_of c.args.self.now)) (range_with_len (c.loop-k.k + 1) (length (held_of c.args.self.now).forms - (c.loop-k.k + 1)))))
     c.args.allowance c.loop-k.trials (sought_in (coded c.args.network.now) 1 (held_of c.args.self.now).forms)
 turn g c =
-    let a = c.args.self.now in
-    from_form (coded c.args.network.now) (form_in (bytes_of a)) c.loop-k.k (length (held_of a).forms) c.args.allowance c.loop-k.trials (coded c.form-form.result) (sought_in (coded c.args.network.now) 1 (held_of a).forms) (omega (arith, c.loop-k-test.true, c.count-k-end.ensures)) c.form-form.ensures c.loop-k.invariant.0 c.loop-k.invariant.2
+    from_form (coded c.args.network.now) _ _ _ _ _ _ _ (omega (arith, c.loop-k-test.true, c.count-k-end.ensures)) c.form-form.ensures c.loop-k.invariant.0 c.loop-k.invariant.2
 
 pub overflow_add-result-in-Map : goal.overflow_add-result-in-Map
 overflow_add-result-in-Map g c =
