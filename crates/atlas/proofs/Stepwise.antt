@@ -55,18 +55,18 @@ module _ {L : Type 0} {step : ℕ → List L → List L} {all : List ℕ → Lis
   step_ends v n ls total h e =
       sym (by.none ls) ∙ ap (λ (k : ℕ). all (range_with_len v k) ls) {x = 0} {y = n - v} (omega arith) ∙ e
 
--- a draft d whose labels change station by station, against the legend l
-module _ {N L : Type 0} {w : _} {b : _} (all : Net L → List ℕ → List L → List L) (d : Draft N L w b) (l : Legend L) where
-  -- before station v: the stations that are left give what all give, and nothing else changed
-  abbrev pub Noting : Draft N L w b → ℕ → Type 0
-  Noting s v =
+-- a draft whose labels change station by station, against a legend
+module _ {N L : Type 0} {w : _} {b : _} where
+  -- the draft d has become s before station v: the stations that are left give what all give, and nothing else changed
+  abbrev pub Noting : (all : Net L → List ℕ → List L → List L) (d : Draft N L w b) → Legend L → Draft N L w b → ℕ → Type 0
+  Noting all d l s v =
       record {
         labels : all (net_of d) (range_with_len v ((net_of d).count - v)) (labels_with s l) ≡ all (net_of d) (range_with_len 0 (net_of d).count) (labels_with d l);
         net : net_of s ≡ net_of d;
         most : s.most ≡ d.most;
       }
 
-  module _ (step : Net L → ℕ → List L → List L) (by : (k : Net L) → Stepwise (step k) (all k)) (s : Draft N L w b) (v : ℕ) (before : Noting s v) where
+  module _ {step : Net L → ℕ → List L → List L} {all : Net L → List ℕ → List L → List L} (by : (k : Net L) → Stepwise (step k) (all k)) (d : Draft N L w b) (l : Legend L) (s : Draft N L w b) (v : ℕ) (before : Noting all d l s v) where
     abbrev n : Net L
     n = net_of d
 
@@ -75,7 +75,7 @@ module _ {N L : Type 0} {w : _} {b : _} (all : Net L → List ℕ → List L →
 
     -- after a station it is so of the next
     pub noting_on :
-        (t : Draft N L w b) → v < d.stations → labels_with t l ≡ step (net_of s) v (labels_with s l) → net_of t ≡ net_of s → t.most ≡ s.most → Noting t (v + 1)
+        (t : Draft N L w b) → v < d.stations → labels_with t l ≡ step (net_of s) v (labels_with s l) → net_of t ≡ net_of s → t.most ≡ s.most → Noting all d l t (v + 1)
     noting_on t h labels net most = record {
       labels = step_again (by n) v n.count (labels_with s l) _ _ (omega (arith, count)) before.labels (labels ∙ ap (λ (k : Net L). step k v (labels_with s l)) before.net);
       net = net ∙ before.net;

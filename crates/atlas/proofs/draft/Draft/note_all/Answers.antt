@@ -6,12 +6,12 @@ use Rattle.atlas.proofs.draft.Draft.note_all.Goals as goal
 
 pub loop-u-preserved : goal.loop-u-preserved
 loop-u-preserved g c =
-    noting_on _ _ _ _ (λ k. rows g.N.Label.Label.sense k.leg (range_with_len 0 k.count)) _ _ c.loop-u.invariant _ c.loop-u-test.true c.in_ok-note_row.ensures.labels c.in_ok-note_row.ensures.net c.in_ok-note_row.ensures.most
+    noting_on (λ k. rows g.N.Label.Label.sense k.leg (range_with_len 0 k.count)) _ _ _ _ c.loop-u.invariant _ c.loop-u-test.true c.in_ok-note_row.ensures.labels c.in_ok-note_row.ensures.net c.in_ok-note_row.ensures.most
 
 pub returns-in_err-note_row-clause-fits : goal.returns-in_err-note_row-clause-fits
 returns-in_err-note_row-clause-fits g c =
     ap is_ok (err_from_is_err_and c.from_residual.result c.from_residual.ensures.1).1
-    ∙ noting_over _ c.args.self.now c.args.legend.now _ (λ k. rows g.N.Label.Label.sense k.leg (range_with_len 0 k.count)) c.loop-u.self _ c.loop-u.invariant c.loop-u-test.true c.in_err-note_row.ensures.fits
+    ∙ noting_over (λ k. rows g.N.Label.Label.sense k.leg (range_with_len 0 k.count)) c.args.self.now c.args.legend.now c.loop-u.self _ c.loop-u.invariant c.loop-u-test.true c.in_err-note_row.ensures.fits
 
 pub returns : goal.returns
-returns g c = noting_ends _ _ _ _ (λ k. rows g.N.Label.Label.sense k.leg (range_with_len 0 k.count)) _ _ c.loop-u.invariant c.loop-u-test.false
+returns g c = noting_ends (λ k. rows g.N.Label.Label.sense k.leg (range_with_len 0 k.count)) _ _ _ _ c.loop-u.invariant c.loop-u-test.false

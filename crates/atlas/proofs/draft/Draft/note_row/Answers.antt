@@ -5,12 +5,12 @@ use Rattle.atlas.proofs.draft.Draft.note_row.Goals as goal
 
 pub loop-v-preserved : goal.loop-v-preserved
 loop-v-preserved g c =
-    noting_on _ _ _ _ (λ k. row g.N.Label.Label.sense (k.leg c.args.u)) _ _ c.loop-v.invariant _ c.loop-v-test.true c.in_ok-note.ensures.labels c.in_ok-note.ensures.net c.in_ok-note.ensures.most
+    noting_on (λ k. row g.N.Label.Label.sense (k.leg c.args.u)) _ _ _ _ c.loop-v.invariant _ c.loop-v-test.true c.in_ok-note.ensures.labels c.in_ok-note.ensures.net c.in_ok-note.ensures.most
 
 pub returns-in_err-note-clause-fits : goal.returns-in_err-note-clause-fits
 returns-in_err-note-clause-fits g c =
     ap is_ok (err_from_is_err_and c.from_residual.result c.from_residual.ensures.1).1
-    ∙ noting_over _ c.args.self.now c.args.legend.now _ (λ k. row g.N.Label.Label.sense (k.leg c.args.u)) c.loop-v.self _ c.loop-v.invariant c.loop-v-test.true c.in_err-note.ensures.fits
+    ∙ noting_over (λ k. row g.N.Label.Label.sense (k.leg c.args.u)) c.args.self.now c.args.legend.now c.loop-v.self _ c.loop-v.invariant c.loop-v-test.true c.in_err-note.ensures.fits
 
 pub returns : goal.returns
-returns g c = noting_ends _ _ _ _ (λ k. row g.N.Label.Label.sense (k.leg c.args.u)) _ _ c.loop-v.invariant c.loop-v-test.false
+returns g c = noting_ends (λ k. row g.N.Label.Label.sense (k.leg c.args.u)) _ _ _ _ c.loop-v.invariant c.loop-v-test.false
