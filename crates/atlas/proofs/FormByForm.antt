@@ -51,11 +51,11 @@ pub from_form :
 from_form h f k m n t g whole l same le e = record {
   within = le;
   is =
-    ap (λ (x : Coded). tried t (put (k + 1) x (searched x h) (sought_in h (k + 1 + 1) (map f (range_with_len (k + 1) (m - (k + 1))))) (searched x h).map)) same
-    ∙ ap (λ (j : ℕ). tried t (put (k + 1) (f k) (searched (f k) h) (sought_in h j (map f (range_with_len (k + 1) (m - (k + 1))))) (searched (f k) h).map)) {x = k + 1 + 1} {y = suc (k + 1)} (omega arith)
-    ∙ ap (λ (j : ℕ). tried t (sought_in h (k + 1) (f k ∷ map f (range_with_len (k + 1) j)))) {x = m - (k + 1)} {y = m - k - 1} (omega arith)
-    ∙ ap (tried t) (sym (forms_on h f k (m - k) (omega arith)))
-    ∙ e;
+      ap (λ (x : Coded). tried t (put (k + 1) x (searched x h) (sought_in h (k + 1 + 1) (map f (range_with_len (k + 1) (m - (k + 1))))) (searched x h).map)) same
+      ∙ ap (λ (j : ℕ). tried t (put (k + 1) (f k) (searched (f k) h) (sought_in h j (map f (range_with_len (k + 1) (m - (k + 1))))) (searched (f k) h).map)) {x = k + 1 + 1} {y = suc (k + 1)} (omega arith)
+      ∙ ap (λ (j : ℕ). tried t (sought_in h (k + 1) (f k ∷ map f (range_with_len (k + 1) j)))) {x = m - (k + 1)} {y = m - k - 1} (omega arith)
+      ∙ ap (tried t) (sym (forms_on h f k (m - k) (omega arith)))
+      ∙ e;
 }
 
 -- what an answer with a map says of the outcome
