@@ -38,17 +38,25 @@ begun h f n =
     ap (λ (k : ℕ). tried 0 (sought_in h 1 (map f (range_with_len 0 k)))) {x = n - 0} {y = n} (omega arith)
     ∙ (let o = sought_in h 1 (map f (range_with_len 0 n)) in ap {B = Sought} (λ (k : ℕ). record { found = o.found; trials = k }) {x = 0 + o.trials} {y = o.trials} (omega arith))
 
--- the search from form k on, as the search of that form and then of the others
+-- a search through form g, numbered f, and then others, after t of n trials, is the whole
+pub record Turn (f : ℕ) (g : Coded) (o : Outcome) (r : Sought) (n t : ℕ) (whole : Sought) : Type 0 where
+  pub within : t ≤ n
+  pub is : tried t (put f g o r o.map) ≡ whole
+
+-- the search of form k of m, and of the forms behind it, is that of the forms from k on
 pub from_form :
-    (h : Coded) (f : ℕ → Coded) (k n t : ℕ) (g : Coded) (whole : Sought) → k < n → g ≡ f k →
-    tried t (sought_in h (k + 1) (map f (range_with_len k (n - k)))) ≡ whole →
-    tried t (put (k + 1) g (searched g h) (sought_in h (k + 1 + 1) (map f (range_with_len (k + 1) (n - (k + 1))))) (searched g h).map) ≡ whole
-from_form h f k n t g whole l same e =
-    ap (λ (x : Coded). tried t (put (k + 1) x (searched x h) (sought_in h (k + 1 + 1) (map f (range_with_len (k + 1) (n - (k + 1))))) (searched x h).map)) same
-    ∙ ap (λ (j : ℕ). tried t (put (k + 1) (f k) (searched (f k) h) (sought_in h j (map f (range_with_len (k + 1) (n - (k + 1))))) (searched (f k) h).map)) {x = k + 1 + 1} {y = suc (k + 1)} (omega arith)
-    ∙ ap (λ (j : ℕ). tried t (sought_in h (k + 1) (f k ∷ map f (range_with_len (k + 1) j)))) {x = n - (k + 1)} {y = n - k - 1} (omega arith)
-    ∙ ap (tried t) (sym (forms_on h f k (n - k) (omega arith)))
-    ∙ e
+    (h : Coded) (f : ℕ → Coded) (k m n t : ℕ) (g : Coded) (whole : Sought) → k < m → g ≡ f k → t ≤ n →
+    tried t (sought_in h (k + 1) (map f (range_with_len k (m - k)))) ≡ whole →
+    Turn (k + 1) g (searched g h) (sought_in h (k + 1 + 1) (map f (range_with_len (k + 1) (m - (k + 1))))) n t whole
+from_form h f k m n t g whole l same le e = record {
+  within = le;
+  is =
+      ap (λ (x : Coded). tried t (put (k + 1) x (searched x h) (sought_in h (k + 1 + 1) (map f (range_with_len (k + 1) (m - (k + 1))))) (searched x h).map)) same
+      ∙ ap (λ (j : ℕ). tried t (put (k + 1) (f k) (searched (f k) h) (sought_in h j (map f (range_with_len (k + 1) (m - (k + 1))))) (searched (f k) h).map)) {x = k + 1 + 1} {y = suc (k + 1)} (omega arith)
+      ∙ ap (λ (j : ℕ). tried t (sought_in h (k + 1) (f k ∷ map f (range_with_len (k + 1) j)))) {x = m - (k + 1)} {y = m - k - 1} (omega arith)
+      ∙ ap (tried t) (sym (forms_on h f k (m - k) (omega arith)))
+      ∙ e;
+}
 
 -- what an answer with a map says of the outcome
 with_map :
@@ -70,8 +78,8 @@ overspent true (Some ps) tr e = let z : ◌≡◌ {A = ℕ} 0 1 = cc in absurd (
 overspent true None tr e = let z : ◌≡◌ {A = ℕ} 0 1 = cc in absurd (omega arith)
 overspent false m tr e = refl
 
--- a search through form g, numbered f, and then others, after t of n trials
-module _ (f : ℕ) (g : Coded) (o : Outcome) (r : Sought) (n t : ℕ) (le : t ≤ n) (whole : Sought) (e : tried t (put f g o r o.map) ≡ whole) where
+-- what such a turn tells
+module _ {f : ℕ} {g : Coded} {o : Outcome} {r : Sought} {n t : ℕ} {whole : Sought} (turn : Turn f g o r n t whole) where
   -- the form has a map
   module _ (more : ℕ) (a : Map more ≡ answered (n - t) o) where
     facts : (leb o.trials (n - t) ≡ true) × (o.trials ≡ more) × ((ps : List (ℕ × ℕ)) × (o.map ≡ Some ps))
@@ -79,10 +87,10 @@ module _ (f : ℕ) (g : Coded) (o : Outcome) (r : Sought) (n t : ℕ) (le : t �
     facts = with_map (leb o.trials (n - t)) o.map o.trials more a
 
     is_whole : tried t (put f g o r (Some facts.2.0)) ≡ whole
-    is_whole = ap (λ (m : Option (List (ℕ × ℕ))). tried t (put f g o r m)) (sym facts.2.1) ∙ e
+    is_whole = ap (λ (m : Option (List (ℕ × ℕ))). tried t (put f g o r m)) (sym facts.2.1) ∙ turn.is
 
     pub here_within : t + more ≤ n
-    here_within = omega (arith, facts.1, leb-true o.trials (n - t) facts.0)
+    here_within = omega (arith, facts.1, turn.within, leb-true o.trials (n - t) facts.0)
 
     pub here_told : Found f (t + more) ≡ told_sought n whole
     unfolding told_sought
@@ -103,13 +111,13 @@ module _ (f : ℕ) (g : Coded) (o : Outcome) (r : Sought) (n t : ℕ) (le : t �
     no_facts = without_map (leb o.trials (n - t)) o.map o.trials more a
 
     pub later_within : t + more ≤ n
-    later_within = omega (arith, no_facts.1, leb-true o.trials (n - t) no_facts.0)
+    later_within = omega (arith, no_facts.1, turn.within, leb-true o.trials (n - t) no_facts.0)
 
     pub later : tried (t + more) r ≡ whole
     later =
         ap {B = Sought} (λ (k : ℕ). record { found = r.found; trials = k }) {x = t + more + r.trials} {y = t + (o.trials + r.trials)} (omega (arith, no_facts.1))
         ∙ ap (λ (m : Option (List (ℕ × ℕ))). tried t (put f g o r m)) (sym no_facts.2)
-        ∙ e
+        ∙ turn.is
 
   -- the trials are spent
   module _ (a : Overspent ≡ answered (n - t) o) where
@@ -124,7 +132,7 @@ module _ (f : ℕ) (g : Coded) (o : Outcome) (r : Sought) (n t : ℕ) (le : t �
     pub spent_told : Spent ≡ told_sought n whole
     unfolding told_sought
     spent_told =
-        ap {B = CodeSought} (λ (b : Bool). cond b (found_in whole.found whole.trials) Spent) (sym (lt-leb whole.trials n (omega (arith, many, at_least o.map, ap (λ (w : Sought). w.trials) e))))
+        ap {B = CodeSought} (λ (b : Bool). cond b (found_in whole.found whole.trials) Spent) (sym (lt-leb whole.trials n (omega (arith, many, at_least o.map, ap (λ (w : Sought). w.trials) turn.is))))
 
 -- no form is left
 pub none_left : (h : Coded) (f t n : ℕ) (whole : Sought) → t ≤ n → tried t (sought_in h f []) ≡ whole → Nowhere t ≡ told_sought n whole

@@ -19,25 +19,31 @@ module _ {L : Type 0} (sense : L → List ℤ) where
       subst (λ (t : Held L). Lawful sense (opened blocks places) (history sense (opened blocks places) calls ++ record { before = t; call = c; reply = (answered sense t c).reply } ∷ [])) e
       (subst (Lawful sense (opened blocks places)) (history_append sense (opened blocks places) calls (c ∷ [])) (season_law sense blocks places (calls ++ c ∷ []) small))
 
-  module _ (s : Held L) (c : Call L) (a : After sense) (e : answered sense s c ≡ a) (r : Result Answer Refusal) (before after : Pairing) where
-    -- what was answered is what is defined
-    pub says : Says a.reply r before after → Says (put_to sense s c).reply r before after
-    unfolding put_to
-    says h = subst (λ (b : After sense). Says b.reply r before after) (sym e) h
+-- a call that is answered by a, told as r
+module _ {L : Type 0} {sense : L → List ℤ} {c : Call L} {a : After sense} {r : Result Answer Refusal} {before after : Pairing} where
+  -- what was answered is what is defined, and keeps the law
+  pub said_lawfully :
+      {s : Held L} → answered sense s c ≡ a → Says a.reply r before after →
+      record { answer : Says (put_to sense s c).reply r before after; law : KeepsLaw sense s c r before after }
+  unfolding put_to
+  said_lawfully {s} e h =
+      let said = subst (λ (b : After sense). Says b.reply r before after) (sym e) h in
+      record { answer = said; law = ((put_to sense s c).reply, said, lawful_after sense s c) }
 
-    pub keeps_law : Says a.reply r before after → KeepsLaw sense s c r before after
-    keeps_law h = ((put_to sense s c).reply, says h, lawful_after s c)
+  -- what was carried out is what is defined, and keeps the law
+  pub done_lawfully :
+      {atlas atlas' : Atlas L} → answered sense (held_of atlas) c ≡ a → Carried sense a r before after atlas atlas' →
+      record { carried : Carried sense (put_to sense (held_of atlas) c) r before after atlas atlas'; law : KeepsLaw sense (held_of atlas) c r before after }
+  unfolding put_to
+  done_lawfully {atlas} {atlas'} e h =
+      record {
+        carried = subst (λ (b : After sense). Carried sense b r before after atlas atlas') (sym e) h;
+        law = (said_lawfully {s = held_of atlas} e h.says).law;
+      }
 
-  -- a call on an atlas, answered by a
-  module _ (atlas atlas' : Atlas L) (c : Call L) (a : After sense) (e : answered sense (held_of atlas) c ≡ a) (r : Result Answer Refusal) (before after : Pairing) where
-    -- what was carried out is what is defined
-    pub carried : Carried sense a r before after atlas atlas' → Carried sense (put_to sense (held_of atlas) c) r before after atlas atlas'
-    unfolding put_to
-    carried h = subst (λ (b : After sense). Carried sense b r before after atlas atlas') (sym e) h
-
-  -- an answer that writes nothing
-  pub quiet :
-      (atlas : Atlas L) (reply : Reply) (r : Result Answer Refusal) (before after : Pairing) → Says reply r before after →
-      ((bytes : List ℕ) (places : List L) → WrittenFor reply (held_of atlas) bytes bytes places places) →
-      Carried sense (unchanged sense (held_of atlas) reply) r before after atlas atlas
-  quiet atlas reply r before after s w = record { says = s; held = refl; written = w (bytes_of atlas) (places_of atlas) }
+-- an answer that writes nothing
+pub quiet :
+    {L : Type 0} {sense : L → List ℤ} {atlas : Atlas L} {reply : Reply} {r : Result Answer Refusal} {before after : Pairing} → Says reply r before after →
+    ((bytes : List ℕ) (places : List L) → WrittenFor reply (held_of atlas) bytes bytes places places) →
+    Carried sense (unchanged sense (held_of atlas) reply) r before after atlas atlas
+quiet {atlas = atlas} s w = record { says = s; held = refl; written = w (bytes_of atlas) (places_of atlas) }

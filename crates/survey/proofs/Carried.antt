@@ -1,5 +1,5 @@
 -- Pairings that carry one network onto another: how a loop decides it, and that maps go back and compose.
-use Rattle.std.proofs.Common.{◌≡◌, ℕ, ◌<◌, ◌≤◌, true, false, ◌⊎◌, List, length, get_or, ℤ, Decides, sym, refl, ap, ◌∙◌, ap₂, inl, inr, arith}
+use Rattle.std.proofs.Common.{◌≡◌, ℕ, ◌+◌, ◌<◌, ◌≤◌, true, false, ◌⊎◌, List, length, get_or, ℤ, Decides, sym, refl, ap, ◌∙◌, ap₂, subst, inl, inr, arith, below_more}
 use Rattle.std.specs.Option.{option_map}
 use Rattle.std.proofs.lemmas.Bool.{cases_lt}
 use Rattle.survey.specs.Carrying.{Carries, GoesBack, MapsBack, MapsCompose}
@@ -9,21 +9,33 @@ use Rattle.survey.specs.Pairings.{size_of, image_of, images_of}
 use Rattle.survey.specs.declared.pairing.Pairing.{Pairing}
 use Rattle.survey.proofs.Paired.{images_length, images_at, image_below, pairing_stands}
 
--- the images that are read in place are as many as the stations
-pub listed_size : (p : Pairing) (xs : List ℕ) → xs ≡ images_of p → length xs ≡ size_of p
-listed_size p xs e = ap length e ∙ images_length p
+-- a loop over the images of a pairing, which are read in place
+module _ (p : Pairing) {xs : List ℕ} (listed : xs ≡ images_of p) where
+  -- they are as many as the stations
+  listed_size : length xs ≡ size_of p
+  listed_size = ap length listed ∙ images_length p
 
--- the image of a station stands at its place
-pub listed_image : (p : Pairing) (xs : List ℕ) (u : ℕ) → xs ≡ images_of p → u < length xs → get_or xs u 0 ≡ image_of p u
-listed_image p xs u e h = ap (λ (l : List ℕ). get_or l u 0) e ∙ images_at p u (omega (arith, listed_size p xs e))
+  -- the image of a station stands at its place
+  listed_image : (k : ℕ) → k < length xs → get_or xs k 0 ≡ image_of p k
+  listed_image k h = ap (λ (l : List ℕ). get_or l k 0) listed ∙ images_at p k (omega (arith, listed_size))
 
--- one station for which a fact fails decides that it does not hold of all
-pub one_fails : (P : ℕ → Type 0) (n k : ℕ) → k < n → (P k → ⊥) → Decides false ((u : ℕ) → u < n → P u)
-one_fails P n k h not-it = ((λ e. let z : ◌≡◌ {A = ℕ} 0 1 = cc in absurd (omega arith)), (λ all. absurd (not-it (all k h))))
+  -- whether Q holds of every station and its image
+  module _ (Q : ℕ → ℕ → Type 0) {k : ℕ} where
+    -- one station for which it fails decides that it does not
+    pub one_fails : k < length xs → (Q k (get_or xs k 0) → ⊥) → Decides false ((u : ℕ) → u < size_of p → Q u (image_of p u))
+    one_fails h fails = (
+      (λ e. let z : ◌≡◌ {A = ℕ} 0 1 = cc in absurd (omega arith)),
+      (λ all. absurd (fails (subst (Q k) (sym (listed_image k h)) (all k (omega (arith, listed_size)))))),
+    )
 
--- a fact that holds up to the end holds of all
-pub all_hold : (P : ℕ → Type 0) (n i : ℕ) → n ≤ i → ((k : ℕ) → k < i → P k) → Decides true ((u : ℕ) → u < n → P u)
-all_hold P n i h all = ((λ e u l. all u (omega arith)), (λ _. refl))
+    -- one station more for which it holds
+    pub one_holds :
+        k < length xs → ((u : ℕ) → u < k → Q u (image_of p u)) → Q k (get_or xs k 0) → (u : ℕ) → u < k + 1 → Q u (image_of p u)
+    one_holds h before here = below_more (λ u. Q u (image_of p u)) k before (subst (Q k) (listed_image k h) here)
+
+    -- up to the end it holds of all
+    pub all_hold : length xs ≤ k → ((u : ℕ) → u < k → Q u (image_of p u)) → Decides true ((u : ℕ) → u < size_of p → Q u (image_of p u))
+    all_hold h before = ((λ e u l. before u (omega (arith, listed_size))), (λ _. refl))
 
 module _ {L : Type 0} (sense : L → List ℤ) where
   -- a pairing of the stations that keeps kinds and legs is a map

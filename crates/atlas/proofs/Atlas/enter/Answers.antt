@@ -1,22 +1,16 @@
-use Rattle.std.proofs.Common.{◌≡◌, ◌≤◌, length, Err, Result, sym, refl, ap, ◌∙◌, subst, arith}
-use Rattle.std.proofs.lemmas.Result.{err_from_is_err_and}
-use Rattle.search.specs.Coded.{Coded}
+use Rattle.std.proofs.Common.{◌≤◌, length, refl, ap, subst, arith}
 use Rattle.search.specs.Meanings.{coded}
 use Rattle.survey.specs.Networks.{Net}
-use Rattle.atlas.specs.Answering.{Says, Carried, entering, unmet}
-use Rattle.atlas.specs.Calls.{answered, settled, sought_in, nothing_sought}
-use Rattle.atlas.specs.Calls.Reply.{known, spent, legend_full}
+use Rattle.atlas.specs.Answering.{Carried, entering, unmet}
+use Rattle.atlas.specs.Calls.{sought_in, nothing_sought}
 use Rattle.atlas.specs.Drafts.{net_of}
 use Rattle.atlas.specs.Holding.{held_of}
-use Rattle.atlas.specs.Legends.{coded_by, full_legend}
+use Rattle.atlas.specs.Legends.{full_legend}
 use Rattle.atlas.specs.Lent.{labels_of}
-use Rattle.atlas.specs.declared.answer.Answer.{Answer}
 use Rattle.survey.specs.declared.pairing.Pairing.{Pairing}
-use Rattle.survey.specs.declared.refusal.Refusal.{Refusal}
-use Rattle.survey.specs.declared.refusal.Refusal.TheVariants.{LegendFull}
-use Rattle.atlas.proofs.Answered.{refused_read, sought_lacking, sought_known, settled_unsought, settled_found, settled_nowhere, settled_spent, enter_settles, enter_full}
+use Rattle.atlas.proofs.Answered.{Settles, refused_read, sought_lacking, sought_known, settled_unsought, settled_found, settled_nowhere, settled_spent, enter_settles, enter_full}
 use Rattle.atlas.proofs.Drafting.{reads_some, reads_none, labels_fit, labels_over, drafted_read, missing_lacks, none_lacks}
-use Rattle.atlas.proofs.LawfulCalls.{keeps_law, carried, quiet}
+use Rattle.atlas.proofs.LawfulCalls.{done_lawfully, quiet}
 use Rattle.atlas.proofs.Lending.{room_is}
 use Rattle.atlas.proofs.Atlas.enter.Goals as goal
 use Rattle.atlas.proofs.Atlas.enter.Goals.{In-Some, After-coded-network}
@@ -26,20 +20,8 @@ read-requires g c = omega (arith, c.free-free.ensures, room_is c.args.self.now.l
 
 pub returns-in_err-draft : goal.returns-in_err-draft
 returns-in_err-draft g c =
-    let sense = g.L.Label.sense in
-    let n = g.N.Network.means c.args.net.now in
-    let a = c.args.self.now in
-    let s = held_of a in
-    let call = entering n c.args.allowance in
-    let p = err_from_is_err_and c.from_residual.result c.from_residual.ensures.1 in
-    let q = refused_read sense s call c.in_err-draft.field-0.0 c.in_err-draft.ensures in
-    let is = q.1 in
-    let say : Says q.0 c.from_residual.result c.args.place.now c.args.place.now = record {
-      answer = p.1 ∙ ap {B = Result Answer Refusal} Err p.2 ∙ q.2.tells;
-      place = q.2.same_place c.args.place.now;
-    } in
-    let done = quiet sense a q.0 c.from_residual.result c.args.place.now c.args.place.now say q.2.same_memory in
-    record { carried = carried sense a _ call _ is _ _ _ done; law = keeps_law sense s call _ is _ _ _ done.says }
+    let q = refused_read g.L.Label.sense (held_of c.args.self.now) (entering (g.N.Network.means c.args.net.now) c.args.allowance) c.in_err-draft.field-0.0 c.from_residual.result c.in_err-draft.ensures c.from_residual.ensures.1 in
+    done_lawfully q.1 (quiet (q.2.says c.args.place.now) q.2.same_memory)
 
 pub returns-in_default : goal.returns-in_default
 unfolding held_of
@@ -48,11 +30,9 @@ returns-in_default g c =
     let n = g.N.Network.means c.args.net.now in
     let a = c.args.self.now in
     let s = held_of a in
-    let call = entering n c.args.allowance in
     let r = reads_none n a.legend _ _ c.in_default.is c.in_ok-draft.ensures in
-    let is = enter_full sense s n c.args.allowance n.count r.0 (labels_over a.legend _ c.free-free.result c.free-free.ensures r.1) in
-    let done = quiet sense a legend_full (Err LegendFull) c.args.place.now c.args.place.now (record { answer = refl; place = refl }) (λ bytes places. (refl, refl)) in
-    record { carried = carried sense a _ call _ is _ _ _ done; law = keeps_law sense s call _ is _ _ _ done.says }
+    let full = labels_over a.legend _ c.free-free.result c.free-free.ensures r.1 in
+    done_lawfully (enter_full sense s n c.args.allowance n.count r.0 full) (quiet (record { answer = refl; place = refl }) (λ bytes places. (refl, refl)))
 
 -- the missing labels find places, as those of the draft's own network
 fit :
@@ -82,19 +62,17 @@ returns-then-has_missing g c =
     let a = c.args.self.now in
     let s = held_of a in
     let d = c.in-Some.draft in
-    let call = entering n c.args.allowance in
     let r = reads_some n a.legend _ _ d c.in-Some.is c.in_ok-draft.ensures in
     let placed = labels_fit a.legend _ c.free-free.result c.free-free.ensures r.2 in
     let lacks = missing_lacks d a.legend n r.0 r.1 c.has_missing.result c.has_missing.ensures c.if-has_missing.true in
-    let is = enter_settles sense s n c.args.allowance d.stations nothing_sought (drafted_read d a.legend n r.0) placed (sought_lacking sense s n lacks) ∙ settled_unsought sense s n call (full_legend sense n s.legend) in
-    let done = subst (λ (k : Net g.row.L.Denot). Carried sense (unmet sense s k 0) c.number.result c.args.place.now c.args.place.now a c.number.new.self) r.0 (c.number.ensures c.args.place.now) in
-    record { carried = carried sense a _ call _ is _ _ _ done; law = keeps_law sense s call _ is _ _ _ done.says }
+    let settled = enter_settles sense s n c.args.allowance d.stations nothing_sought (drafted_read d a.legend n r.0) placed (sought_lacking sense s n lacks) in
+    done_lawfully (settled_unsought settled)
+    (subst (λ (k : Net g.row.L.Denot). Carried sense (unmet sense s k 0) c.number.result c.args.place.now c.args.place.now a c.number.new.self) r.0 (c.number.ensures c.args.place.now))
 
 -- the forms are searched for the network as it is coded, and that settles the answer
 settles :
     (g : _) (c : After-coded-network g) →
-    answered g.L.Label.sense (held_of c.args.self.now) (entering (g.N.Network.means c.args.net.now) c.args.allowance)
-    ≡ settled g.L.Label.sense (held_of c.args.self.now) (entering (g.N.Network.means c.args.net.now) c.args.allowance) (full_legend g.L.Label.sense (g.N.Network.means c.args.net.now) (held_of c.args.self.now).legend) (sought_in (coded c.coded-network.result) 1 (held_of c.args.self.now).forms)
+    Settles g.L.Label.sense (held_of c.args.self.now) (entering (g.N.Network.means c.args.net.now) c.args.allowance) (sought_in (coded c.coded-network.result) 1 (held_of c.args.self.now).forms)
 unfolding held_of
 settles g c =
     let sense = g.L.Label.sense in
@@ -105,20 +83,12 @@ settles g c =
     let r = reads_some n a.legend _ _ d c.in-Some.is c.in_ok-draft.ensures in
     let placed = labels_fit a.legend _ c.free-free.result c.free-free.ensures r.2 in
     let few = none_lacks d a.legend n r.0 r.1 c.has_missing.result c.has_missing.ensures c.if-has_missing.false in
-    let form : coded_by sense s.legend n ≡ coded c.coded-network.result = ap (coded_by sense s.legend) (sym r.0) ∙ sym c.coded-network.ensures in
-    enter_settles sense s n c.args.allowance d.stations (sought_in (coded c.coded-network.result) 1 s.forms) (drafted_read d a.legend n r.0) placed (sought_known sense s n few ∙ ap (λ (h : Coded). sought_in h 1 s.forms) form)
+    enter_settles sense s n c.args.allowance d.stations _ (drafted_read d a.legend n r.0) placed (sought_known sense s n _ _ c.coded-network.ensures r.0 few)
 
 pub returns-in-Found : goal.returns-in-Found
 returns-in-Found g c =
-    let sense = g.L.Label.sense in
-    let n = g.N.Network.means c.args.net.now in
-    let a = c.args.self.now in
-    let s = held_of a in
-    let call = entering n c.args.allowance in
-    let o = sought_in (coded c.coded-network.result) 1 s.forms in
-    let is = settles g (goal.at.returns-in-Found g c).After-coded-network ∙ settled_found sense s n call (full_legend sense n s.legend) o c.in-Found.form c.in-Found.trials c.in-Found.ensures.answer in
-    let done = quiet sense a (known c.in-Found.form c.in-Found.trials _) _ c.args.place.now c.seek.new.place (record { answer = refl; place = c.in-Found.ensures.placed }) (λ bytes places. (refl, refl)) in
-    record { carried = carried sense a _ call _ is _ _ _ done; law = keeps_law sense s call _ is _ _ _ done.says }
+    done_lawfully (settled_found (settles g (goal.at.returns-in-Found g c).After-coded-network) c.in-Found.ensures.answer)
+    (quiet (record { answer = refl; place = c.in-Found.ensures.placed }) (λ bytes places. (refl, refl)))
 
 pub returns-in-Nowhere : goal.returns-in-Nowhere
 unfolding held_of unmet
@@ -127,22 +97,12 @@ returns-in-Nowhere g c =
     let n = g.N.Network.means c.args.net.now in
     let a = c.args.self.now in
     let s = held_of a in
-    let call = entering n c.args.allowance in
     let r = reads_some n a.legend _ _ c.in-Some.draft c.in-Some.is c.in_ok-draft.ensures in
-    let o = sought_in (coded c.coded-network.result) 1 s.forms in
-    let is = settles g (goal.at.returns-in-Nowhere g c).After-coded-network ∙ settled_nowhere sense s n call (full_legend sense n s.legend) o c.in-Nowhere.trials c.in-Nowhere.ensures.answer in
     let made = subst (λ (k : Net g.row.L.Denot). Carried sense (unmet sense s k c.in-Nowhere.trials) c.number-in-Nowhere.result c.seek.new.place c.seek.new.place a c.number-in-Nowhere.new.self) r.0 (c.number-in-Nowhere.ensures c.seek.new.place) in
-    let done = subst (λ (q : Pairing). Carried sense (unmet sense s n c.in-Nowhere.trials) c.number-in-Nowhere.result q c.seek.new.place a c.number-in-Nowhere.new.self) c.in-Nowhere.ensures.placed made in
-    record { carried = carried sense a _ call _ is _ _ _ done; law = keeps_law sense s call _ is _ _ _ done.says }
+    done_lawfully (settled_nowhere (settles g (goal.at.returns-in-Nowhere g c).After-coded-network) c.in-Nowhere.ensures.answer)
+    (subst (λ (q : Pairing). Carried sense (unmet sense s n c.in-Nowhere.trials) c.number-in-Nowhere.result q c.seek.new.place a c.number-in-Nowhere.new.self) c.in-Nowhere.ensures.placed made)
 
 pub returns-in-Spent : goal.returns-in-Spent
 returns-in-Spent g c =
-    let sense = g.L.Label.sense in
-    let n = g.N.Network.means c.args.net.now in
-    let a = c.args.self.now in
-    let s = held_of a in
-    let call = entering n c.args.allowance in
-    let o = sought_in (coded c.coded-network.result) 1 s.forms in
-    let is = settles g (goal.at.returns-in-Spent g c).After-coded-network ∙ settled_spent sense s n call (full_legend sense n s.legend) o c.in-Spent.ensures.answer in
-    let done = quiet sense a (spent c.args.allowance) _ c.args.place.now c.seek.new.place (record { answer = refl; place = c.in-Spent.ensures.placed }) (λ bytes places. (refl, refl)) in
-    record { carried = carried sense a _ call _ is _ _ _ done; law = keeps_law sense s call _ is _ _ _ done.says }
+    done_lawfully (settled_spent (settles g (goal.at.returns-in-Spent g c).After-coded-network) c.in-Spent.ensures.answer)
+    (quiet (record { answer = refl; place = c.in-Spent.ensures.placed }) (λ bytes places. (refl, refl)))

@@ -28,7 +28,7 @@ returns-then-count-blocks g c p =
     let s = held_of a in
     let full : s.blocks ≤ length s.forms = omega (arith, c.count.ensures, c.blocks-2.ensures, c.if-count-blocks.true) in
     subst (λ (x : After sense). Carried sense x (Err AtlasFull) p p a a) (sym (unmatched_full sense s n (full_legend sense n s.legend) c.args.trials full))
-    (quiet sense a _ _ p p (record { answer = refl; place = refl }) (λ bytes places. (refl, refl)))
+    (quiet (record { answer = refl; place = refl }) (λ bytes places. (refl, refl)))
 
 pub join-requires : goal.join-requires
 unfolding held_of

@@ -5,25 +5,25 @@ use Rattle.survey.proofs.Carried.{carries_by, goes_back, maps_back, maps_compose
 use Rattle.survey.proofs.pairing.Pairing.carries.Goals as goal
 
 pub returns-then-stations-count-clause-back : goal.returns-then-stations-count-clause-back
-returns-then-stations-count-clause-back g c = maps_back g.G.Label.Label.sense (g.G.Network.means c.args.g.now) (g.H.Network.means c.args.h.now)
+returns-then-stations-count-clause-back g c = maps_back _ _ _
 
 pub returns-then-stations-count-clause-compose : goal.returns-then-stations-count-clause-compose
-returns-then-stations-count-clause-compose g c = maps_compose g.G.Label.Label.sense (g.G.Network.means c.args.g.now) (g.H.Network.means c.args.h.now)
+returns-then-stations-count-clause-compose g c = maps_compose _ _ _
 
 pub returns-then-not-keeps_kinds-clause-back : goal.returns-then-not-keeps_kinds-clause-back
-returns-then-not-keeps_kinds-clause-back g c = maps_back g.G.Label.Label.sense (g.G.Network.means c.args.g.now) (g.H.Network.means c.args.h.now)
+returns-then-not-keeps_kinds-clause-back g c = maps_back _ _ _
 
 pub returns-then-not-keeps_kinds-clause-compose : goal.returns-then-not-keeps_kinds-clause-compose
-returns-then-not-keeps_kinds-clause-compose g c = maps_compose g.G.Label.Label.sense (g.G.Network.means c.args.g.now) (g.H.Network.means c.args.h.now)
+returns-then-not-keeps_kinds-clause-compose g c = maps_compose _ _ _
 
 pub returns-clause-back : goal.returns-clause-back
-returns-clause-back g c = maps_back g.G.Label.Label.sense (g.G.Network.means c.args.g.now) (g.H.Network.means c.args.h.now)
+returns-clause-back g c = maps_back _ _ _
 
 pub returns-clause-compose : goal.returns-clause-compose
-returns-clause-compose g c = maps_compose g.G.Label.Label.sense (g.G.Network.means c.args.g.now) (g.H.Network.means c.args.h.now)
+returns-clause-compose g c = maps_compose _ _ _
 
 pub returns-clause-reversed : goal.returns-clause-reversed
-returns-clause-reversed g c = goes_back g.G.Label.Label.sense c.args.self.now (g.G.Network.means c.args.g.now) (g.H.Network.means c.args.h.now)
+returns-clause-reversed g c = goes_back _ _ _ _
 
 pub returns-clause-decides : goal.returns-clause-decides
 returns-clause-decides g c =

@@ -1,39 +1,21 @@
-use Rattle.std.proofs.Common.{◌≡◌, ℕ, sym, ap, ◌∙◌, arith, below_more}
-use Rattle.survey.specs.Pairings.{size_of, image_of}
-use Rattle.survey.proofs.Carried.{listed_size, listed_image, one_fails, all_hold}
+use Rattle.std.proofs.Common.{◌≡◌, ℕ, sym, ◌∙◌}
+use Rattle.survey.proofs.Carried.{one_fails, one_holds, all_hold}
 use Rattle.survey.proofs.pairing.Pairing.keeps_kinds.Goals as goal
+use Rattle.survey.proofs.pairing.Pairing.keeps_kinds.Goals.{Start}
+
+-- the kind of station k is that of w
+abbrev Alike : (g : _) → Start g → ℕ → ℕ → Type 0
+Alike g c k w = (g.H.Network.means c.args.h.now).kind w ≡ (g.G.Network.means c.args.g.now).kind k
 
 pub returns-then-kind : goal.returns-then-kind
 returns-then-kind g c =
-    let p = c.args.self.now in
-    let u = c.loop-u.u in
-    let xs = c.images-image-items.result.now in
-    let listed = c.images-image-items.ensures.list in
-    let at = listed_image p xs u listed c.loop-u-test.true in
-    let Kept : ℕ → Type 0 = λ k. (g.H.Network.means c.args.h.now).kind (image_of p k) ≡ (g.G.Network.means c.args.g.now).kind k in
-    one_fails
-    Kept
-    (size_of p)
-    u
-    (omega (arith, listed_size p xs listed))
-    (λ e. c.if-kind.true (c.kind.ensures ∙ ap (g.H.Network.means c.args.h.now).kind at ∙ e ∙ sym c.kind-in-loop-u.ensures))
+    one_fails _ c.images-image-items.ensures.list (Alike g (goal.at.returns-then-kind g c).Start) c.loop-u-test.true
+    (λ e. c.if-kind.true (c.kind.ensures ∙ e ∙ sym c.kind-in-loop-u.ensures))
 
 pub loop-u-preserved : goal.loop-u-preserved
 loop-u-preserved g c =
-    let p = c.args.self.now in
-    let u = c.loop-u.u in
-    let xs = c.images-image-items.result.now in
-    let listed = c.images-image-items.ensures.list in
-    let at = listed_image p xs u listed c.loop-u-test.true in
-    below_more
-    _
-    _
-    c.loop-u.invariant
-    (ap (g.H.Network.means c.args.h.now).kind (sym at) ∙ sym c.kind.ensures ∙ c.if-kind.false ∙ c.kind-in-loop-u.ensures)
+    one_holds _ c.images-image-items.ensures.list (Alike g (goal.at.loop-u-preserved g c).Start) c.loop-u-test.true c.loop-u.invariant
+    (sym c.kind.ensures ∙ c.if-kind.false ∙ c.kind-in-loop-u.ensures)
 
 pub returns : goal.returns
-returns g c =
-    let p = c.args.self.now in
-    let xs = c.images-image-items.result.now in
-    let Kept : ℕ → Type 0 = λ k. (g.H.Network.means c.args.h.now).kind (image_of p k) ≡ (g.G.Network.means c.args.g.now).kind k in
-    all_hold Kept (size_of p) c.loop-u.u (omega (arith, listed_size p xs c.images-image-items.ensures.list)) c.loop-u.invariant
+returns g c = all_hold _ c.images-image-items.ensures.list (Alike g (goal.at.returns g c).Start) c.loop-u-test.false c.loop-u.invariant
