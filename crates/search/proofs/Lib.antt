@@ -49,7 +49,6 @@ pub mod Masks
 pub mod Matches
 -- the code meets the definitions
 pub mod Bitsets
-pub mod Yielded
 pub mod Keyed
 pub mod Made
 pub mod Networked
