@@ -30,6 +30,7 @@ impl<'a, L: Label> Atlas<'a, L> {
             return Ok(Answer::Unknown { trials: 0 });
         };
         let network = draft.coded(&self.legend);
+        // Known and spent are told as `enter` tells them: two lines, for which a conversion would take a contract.
         match self.seek(&network, allowance, place) {
             Sought::Found { form, trials } => Ok(Answer::Known { form, trials }),
             Sought::Nowhere { trials } => Ok(Answer::Unknown { trials }),

@@ -49,7 +49,8 @@ impl Wrong {
     }
 }
 
-// Stands in the other program with a notebook too: shared, it would take a library, with a contract, for one line.
+// The errors, this and the reading of a kind stand in the other program with a notebook too: shared, they would take a
+// library, whose functions would have to promise a grammar of notebooks.
 fn number<F: FromStr>(word: &str) -> Result<F, Wrong>
 where
     <F as FromStr>::Err: Drop,

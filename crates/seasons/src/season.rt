@@ -88,7 +88,8 @@ impl<S: Sheet> Call<S> {
     }
 }
 
-// How much is lent to an atlas.
+// How much is lent to an atlas, as a file tells it: no more than a byte counts, where the program with built-in seasons
+// says how much it likes.
 #[derive(Clone, Copy)]
 struct Lent {
     blocks: u8,
@@ -116,7 +117,8 @@ fn print_refusal(rt: &HostRuntime, refusal: Refusal) -> io::Result<()> {
     }
 }
 
-// Prints an answer; of a known network with the images of the form's stations.
+// Prints an answer; of a known network with the images of the form's stations, in its own way as each program does: how a
+// pairing is printed is promised nowhere.
 fn print_answer(rt: &HostRuntime, answer: Answer, place: &Pairing) -> io::Result<()> {
     match answer {
         Answer::New { form, trials } => println!(rt; "new {form} {trials}"),

@@ -28,6 +28,7 @@ impl<N: Network> Network for BothWays<N> {
 
     ghost bounded = { λ s. both_ways_bounded N.Label.Label.turned (N.Network.means s.below) (N.Network.bounded s.below) };
 
+    // Stations and kinds are passed on, as in the layer that only turns.
     fn stations(&self) -> u16 {
         self.below.stations()
     }

@@ -29,6 +29,8 @@ impl<N: Network> Network for Turned<N> {
 
     ghost bounded = { λ s. turned_bounded N.Label.Label.turned (N.Network.means s.below) (N.Network.bounded s.below) };
 
+    // Stations and kinds are passed on as in the other layer: a trait of layers would ask for the network below in place of
+    // these two lines.
     fn stations(&self) -> u16 {
         self.below.stations()
     }

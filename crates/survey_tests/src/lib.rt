@@ -17,7 +17,8 @@ mod tests {
     use survey::without::Without;
     use survey::word::{kind_of, word};
 
-    // A leg of a grade, as the tables below write it; the other crate that wants one has it as it needs it.
+    // A leg of a grade, as the tables below write it. The worked networks have the same line: a library for it would be
+    // longer than both.
     const fn leg(from: u16, to: u16, value: u8) -> Leg<Grade> {
         Leg {
             from,

@@ -2,6 +2,8 @@
 use survey::grade::Grade;
 use survey::leg_list::Leg;
 
+// A leg of a grade, as the tables below write it. The tests of the survey have the same line: a library for it would be
+// longer than both.
 fn leg(from: u16, to: u16, value: u8) -> Leg<Grade> {
     Leg {
         from,
