@@ -65,6 +65,7 @@ pub fn calls<N: Network>(
     requests: &[Request<N>],
 ) -> io::Result<()> {
     let mut tally = Tally::default();
+    // A request and its line lie side by side, since an atlas takes requests alone.
     for (call, request) in calls.iter().zip(requests) {
         let text = call.text.as_str();
         print!(rt; "  {text}: ")?;
