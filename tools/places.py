@@ -73,7 +73,7 @@ for name, text in sources():
         at(1, m.start(), "a number that stands for none")
     for m in re.finditer(r"^ *(for \w+ in .*\.\..*\{|while .*[<>] .*\{|while .*!=.*\{)$", text, re.M):
         at(3, m.start(1), "a counted loop")
-    for m in re.finditer(r"^impl.*\b(PartialEq|Eq|PartialOrd|Ord|Clone|Copy|From<.*>|TryFrom<.*>|Display|Debug|Default|FromStr|Error)\b(?:<\w+>)? for", text, re.M):
+    for m in re.finditer(r"^impl.*\b(PartialEq|Eq|PartialOrd|Ord|Clone|Copy|From<.*>|TryFrom<.*>|Display|Debug|Default|FromStr|Error)(?:<\w+>)? for", text, re.M):
         at(4, m.start(), "by hand: " + m[1])
     for m in re.finditer(r"fn (same|less|equals|digit|byte_of|byte_at|parsed|number|of)\b", text):
         at(4, m.start(), "compares or converts by hand")

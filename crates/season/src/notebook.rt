@@ -49,7 +49,7 @@ impl Wrong {
     }
 }
 
-// The errors, this and the reading of a kind stand in the other program with a notebook too: shared, they would take a
+// The errors, this, the reading of a kind and `network` stand in the other program with a notebook too: shared, they would take a
 // library, whose functions would have to promise a grammar of notebooks.
 fn number<F: FromStr>(word: &str) -> Result<F, Wrong>
 where

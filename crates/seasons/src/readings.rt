@@ -19,6 +19,7 @@ use survey::refusal::Refusal;
 use survey::turned::Turned;
 use survey::without::Without;
 
+// A layer by its name. An enum and no closure, since each makes a network of another type.
 #[derive(Clone, Copy)]
 enum Layer {
     Turned,

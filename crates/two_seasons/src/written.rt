@@ -5,8 +5,8 @@ use survey::grade::Grade;
 use survey::label::Label;
 use survey::reading::Reading;
 
-// A number of some kind. This, the errors and the reading of a kind stand in the other program with a notebook too:
-// shared, they would take a library, whose functions would have to promise a grammar of notebooks.
+// A number of some kind. This, the errors, the reading of a kind and a notebook's `network` stand in the other program
+// too: shared, they would take a library, whose functions would have to promise a grammar of notebooks.
 pub fn number<F: FromStr>(word: &str) -> Result<F, Wrong>
 where
     <F as FromStr>::Err: Drop,
