@@ -11,6 +11,10 @@ pub struct Words<'a> {
     words: SplitWhitespace<'a>,
 }
 
+fn is_digit(byte: u8) -> bool {
+    matches!(byte, b'0'..=b'9' | b'a'..=b'f')
+}
+
 // The number that a text stands for.
 pub fn parsed<F: FromStr>(text: Option<&str>) -> Option<F>
 where
@@ -53,11 +57,15 @@ impl<'a> Words<'a> {
         parsed(self.words.next()).ok_or_else(|| self.fault())
     }
 
-    // Bytes written with two hex digits each, or `-` for none.
+    // Bytes written with two hex digits each, or `-` for none. The digits are small ones, and looked at before there is
+    // memory for the bytes: the crate takes capitals too, and a word that cannot be read may be too long to hold.
     pub fn bytes(&mut self, heap: Global) -> Result<Vec<u8>, Fault> {
         let word = self.word()?;
         if word == "-" {
             return Ok(Vec::new(heap));
+        }
+        if !word.bytes().all(is_digit) {
+            return Err(self.fault());
         }
         let mut bytes = vec![in heap; 0; word.len() / 2]?;
         decode_to_slice(word, &mut bytes).map_err(|_| self.fault())?;

@@ -23,10 +23,18 @@ pub enum Task {
 #[error("a line of the task file cannot be read")]
 pub struct Fault;
 
+// Reads bytes of two hex digits each. The digits are small ones: capitals, which the crate takes too, are refused.
+fn read_bytes(digits: &[u8], bytes: &mut [u8]) -> Option<()> {
+    if digits.iter().any(|digit| digit.is_ascii_uppercase()) {
+        return None;
+    }
+    decode_to_slice(digits, bytes).ok()
+}
+
 fn read_kinds(count: usize, text: &[u8]) -> Option<[u16; MOST_STATIONS]> {
     let mut kinds = [0; MOST_STATIONS];
     let digits = text.get(..count.checked_mul(2)?)?;
-    decode_to_slice(digits, kinds.get_mut(..count)?).ok()?;
+    read_bytes(digits, kinds.get_mut(..count)?)?;
     Some(kinds.map(u16::from))
 }
 
@@ -38,7 +46,7 @@ fn read_codes(count: usize, text: &[u8]) -> Option<[u8; MOST_CODES]> {
         .chunks_mut(MOST_STATIONS)
         .zip(digits.chunks(width.max(1)))
     {
-        decode_to_slice(digits, row.get_mut(..count)?).ok()?;
+        read_bytes(digits, row.get_mut(..count)?)?;
     }
     Some(codes)
 }
