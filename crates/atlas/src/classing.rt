@@ -18,9 +18,9 @@ impl<'a, L: Label> Atlas<'a, L> {
             return Err(Refusal::NoSuchForm);
         }
         let network = self.form(form as usize - 1);
-        network
-            .classes()
-            .class_of(station as usize)
-            .ok_or(Refusal::NoSuchStation)
+        let class = network.classes().class_of(station as usize);
+        // By its name and no longer chain, so that the must-fail edit turns the bits that are told and nothing before.
+        let bits = class.ok_or(Refusal::NoSuchStation)?;
+        Ok(bits)
     }
 }

@@ -130,7 +130,10 @@ impl<'a, N: Network> Draft<'a, N> {
         ensures others { Behind (length (labels_of legend.new)) legend.old.places.now
             legend.new.places.now }
     {
-        for &(u, v) in &self.legs {
+        // By place, so that the must-fail edit turns the order and nothing else: over an iterator it would be refused for
+        // the iterator's type.
+        for i in 0..self.legs.len() {
+            let (u, v) = self.legs[i];
             if let Some(label) = self.net.leg(u, v) {
                 legend.add(label).unwrap();
             }
