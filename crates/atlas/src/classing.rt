@@ -19,7 +19,7 @@ impl<'a, L: Label> Atlas<'a, L> {
         }
         let network = self.form(form as usize - 1);
         let class = network.classes().class_of(station as usize);
-        // By its name and no longer chain, so that the must-fail edit turns the bits that are told and nothing before.
+        // The bits have a name, so that the must-fail edit turns what is told of them and not how they are looked up.
         let bits = class.ok_or(Refusal::NoSuchStation)?;
         Ok(bits)
     }
